@@ -13,9 +13,9 @@ use Rattle.event_log.specs.Words.{born_in, opened, opened_in}
 use Rattle.protocol.specs.Commits.{bears_all, commit_by, commit_step, next_id_here, with_outcomes}
 use Rattle.protocol.specs.Events.{objects_made}
 use Rattle.protocol.specs.Jobs.{Outcomes, stop_of}
-use Rattle.protocol.specs.Nodes.{There, no_out}
-use Rattle.protocol.specs.Steps.{Here, logs_all, with_run}
-use Rattle.protocol.specs.Tables.{Run}
+use Rattle.protocol.specs.Nodes.{NodeContext, no_out}
+use Rattle.protocol.specs.Steps.{WorkerContext, logs_all, with_run}
+use Rattle.protocol.specs.Tables.{Execution}
 use Rattle.smallest_steps.proofs.SlotMoves as S
 use Rattle.count_laws.specs.Counts.{objects_born}
 use Rattle.owed_laws.proofs.StoreMoves as M
@@ -37,7 +37,7 @@ pub many_born : (es fs : List Entry) → objects_born (flat_map born_in (es ++ f
 many_born es fs = ap objects_born (flat_map-append born_in es fs) ∙ born_more (flat_map born_in es) (flat_map born_in fs)
 
 -- births of so many objects were logged, and an opening for each worker that was opened
-pub record Adds (k : ℕ) (t : There) : Type 0 where
+pub record Adds (k : ℕ) (t : NodeContext) : Type 0 where
   pub born : objects_born (flat_map born_in t.out.entries) ≡ k
   pub opens : length (opened t.out.entries) ≡ t.opened
 
@@ -116,15 +116,15 @@ commit_opens a o [] (v ∷ vs) stop = commit_opens a o [] vs stop
 commit_opens a o [] [] (Over c) = refl
 commit_opens a o [] [] (Needs y) = refl
 
-pub commit_adds : (h : Here) (d : Outcomes) (run : Run) → h.worker.run ≡ Some run → h.there.out ≡ no_out → h.there.opened ≡ 0 → Adds (objects_made d.births) (commit_step h d).there
+pub commit_adds : (h : WorkerContext) (d : Outcomes) (run : Execution) → h.worker.run ≡ Some run → h.there.out ≡ no_out → h.there.opened ≡ 0 → Adds (objects_made d.births) (commit_step h d).there
 commit_adds h d run at silent closed =
     let es : List Entry = commit_entries run.attempt (next_id_here h) d.births d.prints (stop_of d.stop) in
-    let g : Here = logs_all (with_run h (with_outcomes run d)) es in
+    let g : WorkerContext = logs_all (with_run h (with_outcomes run d)) es in
     let begun : Adds (objects_made d.births) g.there = record {
       born = ap (λ o. objects_born (flat_map born_in (o.entries ++ es))) silent ∙ commit_bears run.attempt (next_id_here h) d.births d.prints (stop_of d.stop);
       opens = ap (λ o. length (opened (o.entries ++ es))) silent ∙ commit_opens run.attempt (next_id_here h) d.births d.prints (stop_of d.stop) ∙ sym closed;
     } in
-    let b : Here = bears_all g run.attempt d.births in
+    let b : WorkerContext = bears_all g run.attempt d.births in
     let kept = here_adds (objects_made d.births) in
     subst (λ r. Adds (objects_made d.births) (commit_by h d r).there) (sym at)
     (M.stops_by-kept (λ x. Adds (objects_made d.births) x.there) kept b d.stop b.worker.run (M.bears_all-kept (λ x. Adds (objects_made d.births) x.there) kept g run.attempt d.births begun))

@@ -17,10 +17,10 @@ use Rattle.event_log.specs.Words.{births, born_in, opened, opened_in}
 use Rattle.event_log.proofs.EventLaws.{accepted-event, accepted-refused}
 use Rattle.protocol.specs.Answers.{Answer, Refuses, Step, Takes, answer, decided, given_out, logged, takes, whole_after}
 use Rattle.protocol.specs.Events.{happens}
-use Rattle.protocol.specs.Jobs.{Handed, Nothing}
+use Rattle.protocol.specs.Jobs.{CommitInput, Nothing}
 use Rattle.protocol.specs.Refusals.{is_of_job, is_within_limits, refusal}
 use Rattle.protocol.specs.Tables.{Worker}
-use Rattle.protocol.specs.Whole.{Moved, Whole}
+use Rattle.protocol.specs.Cluster.{Transition, ClusterState}
 use Rattle.owed_laws.specs.of_protocol_laws.Shown.{IsAsShown, hidden, refusal_of}
 use Rattle.owed_laws.specs.of_protocol_laws.Sound.{IsSound}
 use Rattle.owed_laws.proofs.of_protocol_laws.Shown.{refusals_are_as_shown}
@@ -70,15 +70,15 @@ refused_counts s log e seat code =
 
 -- ---- one event of a sound run whose objects are counted
 
-module _ (s : Setting) (log : List Entry) (c : Whole) (sound : IsSound s log c) (made : c.made ≡ objects_born (births log)) where
+module _ (s : Setting) (log : List Entry) (c : ClusterState) (sound : IsSound s log c) (made : c.made ≡ objects_born (births log)) where
   workers_long : length c.workers ≡ length (opened log)
   workers_long = sym (ap length sound.between.knows.opened ∙ long c.workers)
 
   pub now_counted : AreCounted s (record { whole = c; log = log })
   now_counted = record { nodes = sound.between.knows.nodes; workers = workers_long; objects = made }
 
-  module _ (e : Event) (seat : ℕ) (handed : Handed) where
-    abbrev m : Moved
+  module _ (e : Event) (seat : ℕ) (handed : CommitInput) where
+    abbrev m : Transition
     m = happens c e handed
 
     abbrev pub next : Counts
@@ -210,8 +210,8 @@ only_limit : (code : Refusal) → Among code (Limit ∷ []) → code ≡ Limit
 only_limit code (zero, e) = cc
 only_limit code (suc k, e) = absurd (cc)
 
-module _ (s : Setting) (log : List Entry) (c : Whole) (sound : IsSound s log c) (made : c.made ≡ objects_born (births log)) (w : is_within (counted s log) ≡ true) where
-  hidden_limit : (e : Event) (seat : ℕ) (handed : Handed) → is_within (behind (counted s log) c e handed) ≡ false → (code : Refusal) → Among code (hidden e) → code ≡ Limit
+module _ (s : Setting) (log : List Entry) (c : ClusterState) (sound : IsSound s log c) (made : c.made ≡ objects_born (births log)) (w : is_within (counted s log) ≡ true) where
+  hidden_limit : (e : Event) (seat : ℕ) (handed : CommitInput) → is_within (behind (counted s log) c e handed) ≡ false → (code : Refusal) → Among code (hidden e) → code ≡ Limit
   hidden_limit (Claim v) seat handed b code h = differ s log c sound made (Claim v) seat handed _ (adds_nothing s log c sound made (Claim v) seat handed w refl (claim_grows_none c v handed) refl) b
   hidden_limit (Evict n o) seat handed b code h = differ s log c sound made (Evict n o) seat handed _ (adds_nothing s log c sound made (Evict n o) seat handed w refl refl refl) b
   hidden_limit (Lose n o) seat handed b code h = differ s log c sound made (Lose n o) seat handed _ (adds_nothing s log c sound made (Lose n o) seat handed w refl refl refl) b
@@ -224,7 +224,7 @@ module _ (s : Setting) (log : List Entry) (c : Whole) (sound : IsSound s log c) 
   hidden_limit (KillNode n) seat handed b code h = only_limit code h
   hidden_limit Join seat handed b code h = only_limit code h
 
-  passes_refused : (e : Event) (seat : ℕ) (handed : Handed) → Passes s log c sound made e seat handed → answer c e handed ≡ Refuses Limit
+  passes_refused : (e : Event) (seat : ℕ) (handed : CommitInput) → Passes s log c sound made e seat handed → answer c e handed ≡ Refuses Limit
   passes_refused e seat handed p =
       go (refusal c e handed) refl
       (subst (λ o. IsAsShown e o (refusal_of (answer c e handed))) p.unshown (refusals_are_as_shown s log c sound e handed))

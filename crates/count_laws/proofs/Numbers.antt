@@ -11,13 +11,13 @@ use Rattle.event_log.specs.Entries.{Refusal, Pinned, NoCopy, NoWorker, NotReady,
 use Rattle.event_log.specs.Events.{has_job_out, is_committed, is_killed, is_live, node_is_killed, node_lives, worker_of_job, worker_lives}
 use Rattle.event_log.specs.Rules.{Setting}
 use Rattle.protocol.specs.Events.{is_live_node, is_live_worker}
-use Rattle.protocol.specs.Jobs.{Given, Handed}
+use Rattle.protocol.specs.Jobs.{JobRecord, CommitInput}
 use Rattle.protocol.specs.Nodes.{Node}
 use Rattle.protocol.specs.Numbered.{item_at}
 use Rattle.protocol.specs.Refusals as tables
 use Rattle.protocol.specs.Refusals.{commit_refusal, is_dead_node, is_dead_worker, is_of_job, is_out_by, is_ready, or_refusal, refusal, store_refusal}
 use Rattle.protocol.specs.Stores.{Store, evict_refusal, is_of, lose_refusal}
-use Rattle.protocol.specs.Whole.{Whole, node_at, worker_at}
+use Rattle.protocol.specs.Cluster.{ClusterState, node_at, worker_at}
 
 abbrev is_limit : Option Refusal → Bool
 is_limit (Some Limit) = true
@@ -61,7 +61,7 @@ two : (t u : Bool) (code other : Refusal) → is_limit (Some code) ≡ false →
 two true u code other e f = one u other f
 two false u code other e f = e
 
-of_given : (c : Whole) (j : ℕ) (handed : Handed) (g : Option Given) → is_limit (commit_refusal c j handed g) ≡ false
+of_given : (c : ClusterState) (j : ℕ) (handed : CommitInput) (g : Option JobRecord) → is_limit (commit_refusal c j handed g) ≡ false
 of_given c j handed None = refl
 of_given c j handed (Some g) = two (not g.is_committed && is_of_job handed && is_out_by (worker_at c g.worker) j) (is_live_worker (worker_at c g.worker)) NoJob Stale refl refl
 
@@ -88,7 +88,7 @@ loses_none o s = by_copy (list_any (is_of o) (s.primaries ++ s.secondaries))
     by_copy true = refl
     by_copy false = refl
 
-refuses_none : (c : Whole) (e : Event) (handed : Handed) → is_limit (refusal c e handed) ≡ false
+refuses_none : (c : ClusterState) (e : Event) (handed : CommitInput) → is_limit (refusal c e handed) ≡ false
 refuses_none c (Claim w) handed = two (is_live_worker (worker_at c w)) (is_ready c w) NoWorker NotReady refl refl
 refuses_none c (Commit j) handed = of_given c j handed (item_at c.jobs j)
 refuses_none c (Deliver k) handed = one (is_some (item_at c.network k)) NoMessage refl
@@ -101,5 +101,5 @@ refuses_none c (Kill w) handed = one (is_live_worker (worker_at c w)) NoWorker r
 refuses_none c (KillNode n) handed = one (is_live_node (node_at c n)) NoNode refl
 refuses_none c Join handed = refl
 
-pub refusal_is_no_limit : (c : Whole) (e : Event) (handed : Handed) → refusal c e handed ≡ Some Limit → ⊥
+pub refusal_is_no_limit : (c : ClusterState) (e : Event) (handed : CommitInput) → refusal c e handed ≡ Some Limit → ⊥
 refusal_is_no_limit c e handed f = apart (refusal c e handed) (refuses_none c e handed) f

@@ -7,8 +7,8 @@ use Rattle.event_log.specs.Events.{join_in, joins}
 use Rattle.event_log.specs.Rules.{Setting}
 use Rattle.event_log.specs.Words.{births, opened}
 use Rattle.protocol.specs.Events.{happens, objects_made}
-use Rattle.protocol.specs.Jobs.{Handed, OfJob}
-use Rattle.protocol.specs.Whole.{Whole}
+use Rattle.protocol.specs.Jobs.{CommitInput, OfJob}
+use Rattle.protocol.specs.Cluster.{ClusterState}
 
 pub record Counts : Type 0 where
   pub nodes : ℕ
@@ -29,14 +29,14 @@ abbrev pub is_within : Counts → Bool
 is_within n = nat_lt n.nodes 65 && nat_lt n.workers 1025 && nat_lt n.objects 1000001
 
 -- how many objects the event bears: a commit those that what was done on its job bore, any other event none
-abbrev pub borne : Event → Handed → ℕ
+abbrev pub borne : Event → CommitInput → ℕ
 borne (Commit j) (OfJob d) = objects_made d.births
 borne e handed = 0
 
 -- how many workers the event would open
-abbrev pub would_open : Whole → Event → Handed → ℕ
+abbrev pub would_open : ClusterState → Event → CommitInput → ℕ
 would_open c e handed = length (opened (happens c e handed).out.entries)
 
 -- how many there would be behind the event: one node more where it is a join, the workers that it would open, the objects that it bears
-abbrev pub behind : Counts → Whole → Event → Handed → Counts
+abbrev pub behind : Counts → ClusterState → Event → CommitInput → Counts
 behind n c e handed = record { nodes = n.nodes + length (join_in e); workers = n.workers + would_open c e handed; objects = n.objects + borne e handed }

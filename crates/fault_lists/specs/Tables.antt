@@ -4,7 +4,7 @@ use Rattle.std.specs.Fmt.{decimal}
 use Rattle.log_entries.specs.Texts.{event_text}
 use Rattle.event_files.specs.Printing.{events_text}
 use Rattle.event_log.specs.Entries.{Event, FaultKind, OwnerDied, PutLost, RetriesUsed}
-use Rattle.history.specs.Texts.{fault_text, kind_name}
+use Rattle.report_text.specs.Texts.{fault_text, kind_name}
 use Rattle.fault_lists.specs.declared.ending.RunEnd.{RunEnd}
 use Rattle.fault_lists.specs.declared.ending.RunEnd.TheVariants as ends
 use Rattle.fault_lists.specs.declared.fault_list.FaultList.{FaultList}

@@ -7,8 +7,8 @@ ghost use Rattle.event_log.specs.Words.{same_attempt};
 ghost use Rattle.fault_lists.specs.Ends.{attempts_in, begun_by, end_of, kills_main, main_is_killed};
 
 use crate::log_events::is_refused_at;
-use history::main_end::{is_main, main_end, main_fault};
 use log_entries::{Entry, Event};
+use report_text::main_end::{is_main, main_end, main_fault};
 use values::Fault;
 
 /// How main ended in a run.

@@ -5,7 +5,7 @@ ghost use Rattle.fault_lists.specs.Tables.{attempts_line, count_line, count_line
 
 use crate::told::list_text;
 use crate::tried::{EndKind, Tried, all_attempts, count_of, first_of, most_attempts};
-use history::kind_name;
+use report_text::kind_name;
 use std::alloc::{AllocError, Global};
 use values::FaultKind;
 

@@ -7,8 +7,8 @@ use crate::ending::RunEnd;
 use crate::fault_list::{FaultList, event_list};
 use crate::tried::Tried;
 use event_files::print_events;
-use history::kind_name;
 use log_entries::Event;
+use report_text::kind_name;
 use std::alloc::{AllocError, Global};
 
 /// Writes where a fault stands.

@@ -2,7 +2,7 @@
 
 ghost use Rattle.std.specs.Prelude.{◌≡◌, ◌∷◌, ◌++◌, [], IfOk, OnOk, length};
 
-use crate::origin::Origin;
+use crate::shared_birth::SharedBirth;
 use std::alloc::{AllocError, Global};
 use std::marker::Model;
 use task_spec::Birth;
@@ -47,7 +47,7 @@ impl Births {
     }
 
     /// Adds a birth at the end, which stays shared. After an error, which is want of memory, there are none.
-    pub fn push(&mut self, alloc: Global, birth: Origin) -> Result<(), AllocError>
+    pub fn push(&mut self, alloc: Global, birth: SharedBirth) -> Result<(), AllocError>
         ensures { OnOk result (self.new ≡ self.old ++ birth ∷ []) }
     {
         self.inner.push_shared(alloc, birth.inner)

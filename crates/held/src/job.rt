@@ -2,8 +2,8 @@
 
 use crate::answers::Answers;
 use crate::births::Births;
-use crate::origin::Origin;
 use crate::prints::Prints;
+use crate::shared_birth::SharedBirth;
 use task_spec::ids::{AttemptId, ObjectId};
 
 /// The parts of a job: an attempt of a task, to be run up to the next answer that it needs.
@@ -14,7 +14,7 @@ pub struct JobParts {
     /// The attempt that the job carries on.
     pub attempt: AttemptId,
     /// What the attempt runs.
-    pub spec: Origin,
+    pub spec: SharedBirth,
     /// The id of the attempt's first own birth; the others follow.
     pub base: ObjectId,
     /// What it bore so far.

@@ -12,20 +12,20 @@ use Rattle.protocol.specs.Commits.{claim_step, commit_step}
 use Rattle.protocol.specs.Deliveries.{reached}
 use Rattle.protocol.specs.Events.{as_committed, committed_by, dead, delivered_by, delivered_to, dies_with, happens, is_live_node, is_live_worker, objects_made}
 use Rattle.protocol.specs.Events.{killed_by, with_committed, with_delivered}
-use Rattle.protocol.specs.Jobs.{Given, Handed, Job, Nothing, OfAnother, OfJob}
-use Rattle.protocol.specs.Messages.{Letter, Party, TheNode, TheWorker}
-use Rattle.protocol.specs.Nodes.{Node, There}
+use Rattle.protocol.specs.Jobs.{JobRecord, CommitInput, Job, Nothing, OfAnother, OfJob}
+use Rattle.protocol.specs.Messages.{Envelope, Endpoint, TheNode, TheWorker}
+use Rattle.protocol.specs.Nodes.{Node, NodeContext}
 use Rattle.protocol.specs.Notices.{notice_node_step, notice_step}
 use Rattle.protocol.specs.Numbered.{changed_at, item_at}
 use Rattle.protocol.specs.Refusals.{commit_refusal, has_slot, is_out_by, is_ready_on, is_ready_run, is_within_limits, no_worker, refusal, unless}
 use Rattle.protocol.specs.Releases.{release_step}
 use Rattle.protocol.specs.Sets.{repeated}
 use Rattle.protocol.specs.Slots.{forgets, node_reached}
-use Rattle.protocol.specs.Steps.{Here}
-use Rattle.protocol.specs.Tables.{Out, Ready, Run, Worker, new_worker}
+use Rattle.protocol.specs.Steps.{WorkerContext}
+use Rattle.protocol.specs.Tables.{Out, Ready, Execution, Worker, new_worker}
 use Rattle.protocol.specs.Ticks.{tick_step}
-use Rattle.protocol.specs.Whole.{Moved, Whole, after_worker, here, moved, node_at, node_does, node_does_by, there, worker_at, worker_does}
-use Rattle.protocol.specs.Whole.{worker_does_at, worker_does_by}
+use Rattle.protocol.specs.Cluster.{Transition, ClusterState, after_worker, here, moved, node_at, node_does, node_does_by, there, worker_at, worker_does}
+use Rattle.protocol.specs.Cluster.{worker_does_at, worker_does_by}
 use Rattle.protocol_core.specs.Steps.{IsOut}
 use Rattle.protocol_laws.specs.Sound.{IsSound}
 use Rattle.protocol_laws.proofs.Tests.{live_worker, or_none, out_run, ready_run, unless_none}
@@ -44,24 +44,24 @@ pub one_is_out : OneIsOut
 one_is_out c j job other (run, out, is) (next, there, was) =
     let given : out.given ≡ there.given = some_of out.given there.given (sym out.was_given ∙ there.was_given) in
     let worker : out.worker ≡ there.worker =
-    some_of out.worker there.worker (sym out.of_worker ∙ ap (λ (g : Given). worker_at c g.worker) given ∙ there.of_worker) in
+    some_of out.worker there.worker (sym out.of_worker ∙ ap (λ (g : JobRecord). worker_at c g.worker) given ∙ there.of_worker) in
     let same : run ≡ next = some_of run next (sym out.runs ∙ ap (λ (x : Worker). x.run) worker ∙ there.runs) in
-    is ∙ ap (λ (r : Run). job_of j r) same ∙ sym was
+    is ∙ ap (λ (r : Execution). job_of j r) same ∙ sym was
 
 -- ---- by the lists
 
 -- the job stands out, by the jobs given out and the workers
-record Stands (jobs : List Given) (workers : List Worker) (j : ℕ) (job : Job) : Type 0 where
-  pub given : Given
+record Stands (jobs : List JobRecord) (workers : List Worker) (j : ℕ) (job : Job) : Type 0 where
+  pub given : JobRecord
   pub was_given : item_at jobs j ≡ Some given
   pub worker : Worker
   pub of_worker : item_at workers given.worker ≡ Some worker
   pub out : StandsOut j job worker
 
-abbrev StandsIn : Whole → ℕ → Job → Type 0
+abbrev StandsIn : ClusterState → ℕ → Job → Type 0
 StandsIn c j job = Stands c.jobs c.workers j job
 
-stands_of : (c : Whole) (j : ℕ) (job : Job) → IsOut c j job → StandsIn c j job
+stands_of : (c : ClusterState) (j : ℕ) (job : Job) → IsOut c j job → StandsIn c j job
 stands_of c j job (run, out, is) = record {
   given = out.given;
   was_given = out.was_given;
@@ -70,7 +70,7 @@ stands_of c j job (run, out, is) = record {
   out = record { run = run; there = out.runs; out = out.is_out; same = is };
 }
 
-out_of : (c : Whole) (j : ℕ) (job : Job) → StandsIn c j job → IsOut c j job
+out_of : (c : ClusterState) (j : ℕ) (job : Job) → StandsIn c j job → IsOut c j job
 out_of c j job s = (
   s.out.run,
   record {
@@ -96,7 +96,7 @@ module _ (j : ℕ) (job : Job) where
   same_run x y e p = record { run = p.run; there = e ∙ p.there; out = p.out; same = p.same }
 
   -- where workers came behind
-  with_more : (jobs : List Given) (workers more : List Worker) → Stands jobs workers j job → Stands jobs (workers ++ more) j job
+  with_more : (jobs : List JobRecord) (workers more : List Worker) → Stands jobs workers j job → Stands jobs (workers ++ more) j job
   with_more jobs workers more s = record {
     given = s.given;
     was_given = s.was_given;
@@ -106,7 +106,7 @@ module _ (j : ℕ) (job : Job) where
   }
 
   -- where the worker of that number became another
-  with_changed : (jobs : List Given) (workers : List Worker) (w : ℕ) (f : Worker → Worker) (s : Stands jobs workers j job) →
+  with_changed : (jobs : List JobRecord) (workers : List Worker) (w : ℕ) (f : Worker → Worker) (s : Stands jobs workers j job) →
       (s.given.worker ≡ w → StandsOut j job (f s.worker)) → Stands jobs (changed_at workers w f) j job
   with_changed jobs workers w f s own = elim (by_number s.given.worker w) [
     | inl same ↦ record {
@@ -128,11 +128,11 @@ module _ (j : ℕ) (job : Job) where
 
   -- ---- an event of a node or a worker
 
-  node_stands : (c : Whole) (n : ℕ) (f : There → There) → StandsIn c j job → (o : Option Node) → StandsIn (node_does_by c n f o).whole j job
+  node_stands : (c : ClusterState) (n : ℕ) (f : NodeContext → NodeContext) → StandsIn c j job → (o : Option Node) → StandsIn (node_does_by c n f o).whole j job
   node_stands c n f s None = s
   node_stands c n f s (Some node) = with_more c.jobs c.workers (repeated (f (there c n node)).opened (new_worker n)) s
 
-  worker_stands : (c : Whole) (w : ℕ) (step : Here → Here) (s : StandsIn c j job) →
+  worker_stands : (c : ClusterState) (w : ℕ) (step : WorkerContext → WorkerContext) (s : StandsIn c j job) →
       ((x : Worker) (node : Node) → s.given.worker ≡ w → worker_at c w ≡ Some x → StandsOut j job x → StandsOut j job (step (here c w x node)).worker) →
       StandsIn (worker_does c w step).whole j job
   worker_stands c w step s keeps = by_worker (worker_at c w) refl
@@ -140,7 +140,7 @@ module _ (j : ℕ) (job : Job) where
       by_node : (x : Worker) → worker_at c w ≡ Some x → (o : Option Node) → StandsIn (worker_does_at c w x step o).whole j job
       by_node x at None = s
       by_node x at (Some node) =
-          let h : Here = release_step (step (here c w x node)) in
+          let h : WorkerContext = release_step (step (here c w x node)) in
           with_more c.jobs (changed_at c.workers w (λ _. h.worker)) (repeated h.there.opened (new_worker x.node))
           (with_changed c.jobs c.workers w (λ _. h.worker) s (λ same.
           let it : s.worker ≡ x = some_of s.worker x (sym s.of_worker ∙ ap (worker_at c) same ∙ at) in
@@ -152,15 +152,15 @@ module _ (j : ℕ) (job : Job) where
 
   -- ---- one event
 
-  module _ (s : Setting) (log : List Entry) (c : Whole) (sound : IsSound s log c) (out : StandsIn c j job) where
-    claim_stands : (w : ℕ) (handed : Handed) → refusal c (Claim w) handed ≡ None → StandsIn (happens c (Claim w) handed).whole j job
+  module _ (s : Setting) (log : List Entry) (c : ClusterState) (sound : IsSound s log c) (out : StandsIn c j job) where
+    claim_stands : (w : ℕ) (handed : CommitInput) → refusal c (Claim w) handed ≡ None → StandsIn (happens c (Claim w) handed).whole j job
     claim_stands w handed r =
         let parts = or_none (no_worker c w) (unless (is_ready_on c w (worker_at c w)) NotReady) r in
         let l = live_worker c w (unless_none (is_live_worker (worker_at c w)) NoWorker parts.0) in
         let ready : is_ready_on c w (Some l.worker) ≡ true = ap (is_ready_on c w) (sym l.at) ∙ unless_none (is_ready_on c w (worker_at c w)) NotReady parts.1 in
         let two = and_parts (l.worker.is_live && is_ready_run l.worker.run) (has_slot w (node_at c l.worker.node)) ready in
         let run = ready_run l.worker.run (and_parts l.worker.is_live (is_ready_run l.worker.run) two.0).1 in
-        let d : Whole = record c { jobs = c.jobs ++ record { worker = w; is_committed = false } ∷ [] } in
+        let d : ClusterState = record c { jobs = c.jobs ++ record { worker = w; is_committed = false } ∷ [] } in
         let more : StandsIn d j job = record {
           given = out.given;
           was_given = item_before c.jobs (record { worker = w; is_committed = false } ∷ []) j out.given out.was_given;
@@ -171,12 +171,12 @@ module _ (j : ℕ) (job : Job) where
         worker_stands d w (λ h. claim_step h (length c.jobs + 1)) more (λ x node same at p.
         let it : x ≡ l.worker = some_of x l.worker (sym at ∙ l.at) in
         let one : p.run ≡ run.0 = some_of p.run run.0 (sym p.there ∙ ap (λ (y : Worker). y.run) it ∙ run.1) in
-        absurd (ready_apart j (sym run.2 ∙ ap (λ (q : Run). q.phase) (sym one) ∙ p.out)))
+        absurd (ready_apart j (sym run.2 ∙ ap (λ (q : Execution). q.phase) (sym one) ∙ p.out)))
 
-    commit_stands : (i : ℕ) (handed : Handed) → refusal c (Commit i) handed ≡ None → (i ≡ j → ⊥) → StandsIn (happens c (Commit i) handed).whole j job
+    commit_stands : (i : ℕ) (handed : CommitInput) → refusal c (Commit i) handed ≡ None → (i ≡ j → ⊥) → StandsIn (happens c (Commit i) handed).whole j job
     commit_stands i handed r apart = go handed (item_at c.jobs i) refl r
       where
-        go : (handed : Handed) (o : Option Given) → item_at c.jobs i ≡ o → commit_refusal c i handed o ≡ None → StandsIn (committed_by c i handed o).whole j job
+        go : (handed : CommitInput) (o : Option JobRecord) → item_at c.jobs i ≡ o → commit_refusal c i handed o ≡ None → StandsIn (committed_by c i handed o).whole j job
         go Nothing None e h = out
         go Nothing (Some g) e h = out
         go OfAnother None e h = out
@@ -187,7 +187,7 @@ module _ (j : ℕ) (job : Job) where
             (unless (is_live_worker (worker_at c g.worker)) Stale) h in
             let a = and_parts (not g.is_committed && true) (is_out_by (worker_at c g.worker) i)
             (unless_none (not g.is_committed && true && is_out_by (worker_at c g.worker) i) NoJob parts.0) in
-            let d : Whole = with_committed c i (objects_made o.births) in
+            let d : ClusterState = with_committed c i (objects_made o.births) in
             let left : StandsIn d j job = record {
               given = out.given;
               was_given = changed_elsewhere c.jobs i j as_committed out.given (λ e. apart (sym e)) out.was_given;
@@ -198,9 +198,9 @@ module _ (j : ℕ) (job : Job) where
             worker_stands d g.worker (λ k. commit_step k o) left (λ x node same at p.
             let run = out_run x.run i (ap (λ (y : Option Worker). is_out_by y i) (sym at) ∙ a.1) in
             let one : p.run ≡ run.0 = some_of p.run run.0 (sym p.there ∙ run.1) in
-            absurd (apart (out_number i j (sym run.2 ∙ ap (λ (q : Run). q.phase) (sym one) ∙ p.out))))
+            absurd (apart (out_number i j (sym run.2 ∙ ap (λ (q : Execution). q.phase) (sym one) ∙ p.out))))
 
-    deliver_to : (k : ℕ) (l : Letter) (r : Party) → StandsIn (delivered_to (with_delivered c k) l r).whole j job
+    deliver_to : (k : ℕ) (l : Envelope) (r : Endpoint) → StandsIn (delivered_to (with_delivered c k) l r).whole j job
     deliver_to k l (TheWorker w) =
         at_test (λ i. is_live_worker (worker_at c w) ≡ i →
         StandsIn (if i then worker_does (with_delivered c k) w (λ g. reached g l.sender l.message) else moved (with_delivered c k)).whole j job)
@@ -216,7 +216,7 @@ module _ (j : ℕ) (job : Job) where
         StandsIn (if i then node_does (with_delivered c k) n (λ g. node_reached g l.sender l.message) else moved (with_delivered c k)).whole j job)
         (is_live_node (node_at c n)) (λ _. node_stands (with_delivered c k) n (λ g. node_reached g l.sender l.message) out (node_at c n)) (λ _. out)
 
-    deliver_stands : (k : ℕ) (o : Option Letter) → StandsIn (delivered_by c k o).whole j job
+    deliver_stands : (k : ℕ) (o : Option Envelope) → StandsIn (delivered_by c k o).whole j job
     deliver_stands k None = out
     deliver_stands k (Some l) = deliver_to k l l.receiver
 
@@ -232,7 +232,7 @@ module _ (j : ℕ) (job : Job) where
     commit_apart : (i : ℕ) → Commit i ≢ Commit j → i ≡ j → ⊥
     commit_apart i apart e = apart (ap Commit e)
 
-    happens_stands : (e : Event) (handed : Handed) → refusal c e handed ≡ None → e ≢ Commit j → StandsIn (happens c e handed).whole j job
+    happens_stands : (e : Event) (handed : CommitInput) → refusal c e handed ≡ None → e ≢ Commit j → StandsIn (happens c e handed).whole j job
     happens_stands (Claim w) handed r apart = claim_stands w handed r
     happens_stands (Commit i) handed r apart = commit_stands i handed r (commit_apart i apart)
     happens_stands (Deliver k) handed r apart = deliver_stands k (item_at c.network k)
@@ -253,7 +253,7 @@ module _ (j : ℕ) (job : Job) where
     }
     happens_stands Join handed r apart = out
 
-    answer_stands : (e : Event) (handed : Handed) → e ≢ Commit j → StandsIn (whole_after c (answer c e handed)) j job
+    answer_stands : (e : Event) (handed : CommitInput) → e ≢ Commit j → StandsIn (whole_after c (answer c e handed)) j job
     answer_stands e handed apart = go (refusal c e handed) refl
       where
         go : (o : Option Refusal) → refusal c e handed ≡ o → StandsIn (whole_after c (decided c e handed o)) j job
@@ -268,11 +268,11 @@ jobs_stand s log c sound e handed j job apart out =
 -- ---- a claim
 
 -- a step by which the worker's attempt comes to be out
-worker_gives : (c : Whole) (j : ℕ) (job : Job) (g : Given) (step : Here → Here) (x : Worker) (node : Node) → item_at c.jobs j ≡ Some g →
+worker_gives : (c : ClusterState) (j : ℕ) (job : Job) (g : JobRecord) (step : WorkerContext → WorkerContext) (x : Worker) (node : Node) → item_at c.jobs j ≡ Some g →
     worker_at c g.worker ≡ Some x → node_at c x.node ≡ Some node → StandsOut j job (step (here c g.worker x node)).worker →
     StandsIn (worker_does c g.worker step).whole j job
 worker_gives c j job g step x node given at home out =
-    let h : Here = release_step (step (here c g.worker x node)) in
+    let h : WorkerContext = release_step (step (here c g.worker x node)) in
     let behind : StandsIn (after_worker c g.worker x.node h).whole j job = with_more j job c.jobs (changed_at c.workers g.worker (λ _. h.worker))
     (repeated h.there.opened (new_worker x.node)) (record {
       given = g;
@@ -281,13 +281,13 @@ worker_gives c j job g step x node given at home out =
       of_worker = changed_same c.workers g.worker (λ _. h.worker) x at;
       out = out_at_release j job (step (here c g.worker x node)) out;
     }) in
-    subst (λ (m : Moved). StandsIn m.whole j job) (sym (ap (worker_does_by c g.worker step) at ∙ ap (worker_does_at c g.worker x step) home)) behind
+    subst (λ (m : Transition). StandsIn m.whole j job) (sym (ap (worker_does_by c g.worker step) at ∙ ap (worker_does_at c g.worker x step) home)) behind
 
 has_home : (w : ℕ) (o : Option Node) → has_slot w o ≡ true → (node : Node) × (o ≡ Some node)
 has_home w None e = absurd (cc)
 has_home w (Some node) e = (node, refl)
 
-taken_out : (c : Whole) (w : ℕ) (handed : Handed) → refusal c (Claim w) handed ≡ None → (job : Job) → given_out c (Claim w) ≡ Some job →
+taken_out : (c : ClusterState) (w : ℕ) (handed : CommitInput) → refusal c (Claim w) handed ≡ None → (job : Job) → given_out c (Claim w) ≡ Some job →
     StandsIn (happens c (Claim w) handed).whole (length c.jobs + 1) job
 taken_out c w handed r job gives =
     let parts = or_none (no_worker c w) (unless (is_ready_on c w (worker_at c w)) NotReady) r in
@@ -297,8 +297,8 @@ taken_out c w handed r job gives =
     let run = ready_run l.worker.run (and_parts l.worker.is_live (is_ready_run l.worker.run) two.0).1 in
     let home = has_home w (node_at c l.worker.node) two.1 in
     let n : ℕ = length c.jobs + 1 in
-    let g : Given = record { worker = w; is_committed = false } in
-    let d : Whole = record c { jobs = c.jobs ++ g ∷ [] } in
+    let g : JobRecord = record { worker = w; is_committed = false } in
+    let d : ClusterState = record c { jobs = c.jobs ++ g ∷ [] } in
     let same : job_of n run.0 ≡ job = some_of (job_of n run.0) job (sym (ap (answers.job_at n) l.at ∙ ap (job_by n) run.1) ∙ gives) in
     subst (StandsIn (happens c (Claim w) handed).whole n) same
     (worker_gives d n (job_of n run.0) g (λ h. claim_step h n) l.worker home.0 (item_last c.jobs g n refl) l.at home.1
@@ -313,13 +313,13 @@ refuses_apart code b e = cc
 pub claims_give_jobs_out : ClaimsGiveJobsOut
 claims_give_jobs_out c w handed step job is gives = out_of step.whole (length c.jobs + 1) job (go (refusal c (Claim w) handed) refl is)
   where
-    m : Moved
+    m : Transition
     m = happens c (Claim w) handed
 
     of_step : refusal c (Claim w) handed ≡ None → takes m (given_out c (Claim w)) ≡ Takes step → StandsIn step.whole (length c.jobs + 1) job
     of_step r e =
-        let same = takes_step (record { whole = m.whole; entries = m.out.entries; letters = m.out.letters; given = given_out c (Claim w) }) step e in
-        subst (λ (x : Whole). StandsIn x (length c.jobs + 1) job) (ap (λ (x : Step). x.whole) same)
+        let same = takes_step (record { whole = m.whole; entries = m.out.entries; envelopes = m.out.envelopes; given = given_out c (Claim w) }) step e in
+        subst (λ (x : ClusterState). StandsIn x (length c.jobs + 1) job) (ap (λ (x : Step). x.whole) same)
         (taken_out c w handed r job (ap (λ (x : Step). x.given) same ∙ gives))
 
     go : (o : Option Refusal) → refusal c (Claim w) handed ≡ o → decided c (Claim w) handed o ≡ Takes step → StandsIn step.whole (length c.jobs + 1) job

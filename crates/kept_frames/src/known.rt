@@ -5,7 +5,7 @@ ghost use Rattle.values.specs.Values.{content_of};
 ghost use Rattle.kept_frames.specs.Known.{IsAfter, IsAt, IsNext};
 ghost use Rattle.kept_frames.specs.Views.{data_of};
 
-use held::Origin;
+use held::SharedBirth;
 use ids::{AttemptId, ObjectId};
 use segment::{Done, Job, ScriptName};
 use std::alloc::{AllocError, Global};
@@ -17,7 +17,7 @@ pub(crate) struct Known {
     /// The attempt that goes on.
     pub attempt: AttemptId,
     /// What it runs.
-    pub spec: Origin,
+    pub spec: SharedBirth,
     /// The id of its first own birth.
     pub base: ObjectId,
     /// How many births it made so far.

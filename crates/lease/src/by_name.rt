@@ -7,7 +7,7 @@ ghost use Rattle.lease.specs.Promises.{IsWithinSlots};
 
 use crate::scheduler::{ask, back, blocked, killed, unblocked};
 use ids::{AttemptId, WorkerId};
-use protocol_data::{AskKey, There};
+use protocol_data::{AskKey, NodeContext};
 use std::alloc::{AllocError, Global};
 
 /// What gives workers and slots to attempts at a node, in an event. On an error nothing is changed: it is want of memory, or a new worker would have
@@ -30,7 +30,7 @@ pub trait Scheduling {
     fn killed(&mut self, alloc: Global, worker: WorkerId) -> Result<(), AllocError>;
 }
 
-impl Scheduling for There {
+impl Scheduling for NodeContext {
     fn ask(&mut self, alloc: Global, key: &AskKey) -> Result<(), AllocError>
         ensures step { OnOk result (self.new ≡ asked self.old key.now) }
         ensures err { OnErr result (self.new ≡ self.old) }

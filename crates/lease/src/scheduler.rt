@@ -8,13 +8,13 @@ ghost use Rattle.lease.specs.Promises.{IsWithinSlots};
 use crate::asks::asked;
 use crate::grants::{ask_slot, forget, free, note_back};
 use ids::{AttemptId, WorkerId};
-use protocol_data::{AskKey, There};
+use protocol_data::{AskKey, NodeContext};
 use std::alloc::{AllocError, Global};
 
 /// An ask for a worker. With a free slot it gets the idle worker of least number, or a new one; without one it is sent on to the next node,
 /// and after as many asks as there are nodes it waits. A repeated ask gets the answer that stands.
 #[tactic(auto, using(crate::proofs::Within::asked_within))]
-pub fn ask(alloc: Global, there: &mut There, key: &AskKey) -> Result<(), AllocError>
+pub fn ask(alloc: Global, there: &mut NodeContext, key: &AskKey) -> Result<(), AllocError>
     ensures step { OnOk result (there.new ≡ asked there.old key.now) }
     ensures err { OnErr result (there.new ≡ there.old) }
     ensures again { (x : AskReply) → reply_to there.old.node.scheduler key.now ≡ Some x → OnOk result (there.new ≡ replies there.old key.now x) }
@@ -27,7 +27,7 @@ pub fn ask(alloc: Global, there: &mut There, key: &AskKey) -> Result<(), AllocEr
 
 /// The worker has run its attempt: it may be given again, if this was its latest lease and that is over.
 #[tactic(auto, using(crate::proofs::Within::back_within))]
-pub fn back(there: &mut There, worker: WorkerId, attempt: AttemptId) -> Result<(), AllocError>
+pub fn back(there: &mut NodeContext, worker: WorkerId, attempt: AttemptId) -> Result<(), AllocError>
     ensures step { OnOk result (there.new ≡ is_back there.old worker attempt) }
     ensures err { OnErr result (there.new ≡ there.old) }
     ensures slots { IsWithinSlots there.old → OnOk result (IsWithinSlots there.new) }
@@ -37,7 +37,7 @@ pub fn back(there: &mut There, worker: WorkerId, attempt: AttemptId) -> Result<(
 }
 
 /// The worker's attempt waits or has stopped: its slot, if it has one, goes to whom one is due next.
-pub fn blocked(alloc: Global, there: &mut There, worker: WorkerId) -> Result<(), AllocError>
+pub fn blocked(alloc: Global, there: &mut NodeContext, worker: WorkerId) -> Result<(), AllocError>
     ensures step { OnOk result (there.new ≡ frees there.old worker) }
     ensures err { OnErr result (there.new ≡ there.old) }
     ensures slots { IsWithinSlots there.old → OnOk result (IsWithinSlots there.new) }
@@ -48,7 +48,7 @@ pub fn blocked(alloc: Global, there: &mut There, worker: WorkerId) -> Result<(),
 
 /// The worker's attempt was answered: it gets a slot, before any ask, as soon as one is free.
 #[tactic(auto, using(crate::proofs::Within::slot_within))]
-pub fn unblocked(alloc: Global, there: &mut There, worker: WorkerId) -> Result<(), AllocError>
+pub fn unblocked(alloc: Global, there: &mut NodeContext, worker: WorkerId) -> Result<(), AllocError>
     ensures step { OnOk result (there.new ≡ asks_slot there.old worker) }
     ensures err { OnErr result (there.new ≡ there.old) }
     ensures slots { IsWithinSlots there.old → OnOk result (IsWithinSlots there.new) }
@@ -59,7 +59,7 @@ pub fn unblocked(alloc: Global, there: &mut There, worker: WorkerId) -> Result<(
 }
 
 /// The worker is dead: its slot is free, and it is never given again.
-pub fn killed(alloc: Global, there: &mut There, worker: WorkerId) -> Result<(), AllocError>
+pub fn killed(alloc: Global, there: &mut NodeContext, worker: WorkerId) -> Result<(), AllocError>
     ensures step { OnOk result (there.new ≡ forgets there.old worker) }
     ensures err { OnErr result (there.new ≡ there.old) }
     ensures slots { IsWithinSlots there.old → OnOk result (IsWithinSlots there.new) }

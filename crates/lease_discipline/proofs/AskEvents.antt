@@ -13,20 +13,20 @@ use Rattle.protocol_laws.specs.of_protocol.Numbered.{item_at, changed_at}
 use Rattle.event_log.specs.Words.{attempt}
 use Rattle.protocol_laws.proofs.of_protocol_owed.Nodes.{changed_cases, there_more, there_still}
 use Rattle.protocol_laws.proofs.of_protocol_owed.CourseEvents.{append_split, one_of}
-use Rattle.protocol_laws.proofs.of_protocol_owed.Letters.{among-more}
+use Rattle.protocol_laws.proofs.of_protocol_owed.Envelopes.{among-more}
 use Rattle.protocol_laws.specs.of_protocol.Sets.{object_id}
 use Rattle.protocol_laws.specs.of_protocol.Sets.{first_item, has, least, repeated, rest_of}
-use Rattle.protocol_laws.specs.of_protocol.Messages.{Letter, letter, Message, Party, TheWorker, TheNode, Ask, Give, Elsewhere, Wait, Back, Push, Finished, FinishedAck, Failed}
+use Rattle.protocol_laws.specs.of_protocol.Messages.{Envelope, envelope, Message, Endpoint, TheWorker, TheNode, Ask, Give, Elsewhere, Wait, Back, Push, Finished, FinishedAck, Failed}
 use Rattle.protocol_laws.specs.of_protocol.Messages.{Where, At, Gone, Fetch, CopyOf, Missing, Hold, HoldAck, Unhold}
 use Rattle.protocol_laws.specs.of_protocol.Jobs.{Outcomes}
-use Rattle.protocol_laws.specs.of_protocol.Nodes.{AskKey, AskReply, Asked, Node, Queued, Scheduler, SentOn, There, with_scheduler}
+use Rattle.protocol_laws.specs.of_protocol.Nodes.{AskKey, AskReply, Asked, Node, Queued, Scheduler, SentOn, NodeContext, with_scheduler}
 use Rattle.protocol_laws.specs.of_protocol.Slots.{ask_key, asked_by, asks_slot, forgets, frees, gives_worker, grants, grants_next, grants_queued, has_free_slot}
 use Rattle.protocol_laws.specs.of_protocol.Slots.{has_no_slot_for, leases_idle}
 use Rattle.protocol_laws.specs.of_protocol.Slots.{next_in_circle, queues, replies_anew, reply_to, same_key, with_answered}
 use Rattle.protocol_laws.specs.of_protocol.Slots.{without_slot, without_worker}
 use Rattle.protocol_laws.specs.of_protocol.Tables.{AskedAt, OwnTask, Worker, new_worker, task_of}
-use Rattle.protocol_laws.specs.of_protocol.Steps.{Here, object_at}
-use Rattle.protocol_laws.specs.of_protocol.Whole.{Whole, node_at, worker_at, there, here, after_node}
+use Rattle.protocol_laws.specs.of_protocol.Steps.{WorkerContext, object_at}
+use Rattle.protocol_laws.specs.of_protocol.Cluster.{ClusterState, node_at, worker_at, there, here, after_node}
 use Rattle.protocol_laws.specs.of_protocol_owed.Turns.{IsAnswer}
 use Rattle.protocol_laws.proofs.of_protocol_owed.Asks.{QueueIsRight, Stands, has_key, reply_in, reply-other, same_key-refl, same_key-true, with_reply_in}
 use Rattle.protocol_laws.proofs.of_protocol_owed.Nodes.{NodesAreRight}
@@ -41,8 +41,8 @@ use Rattle.protocol_laws.specs.of_protocol.Jobs.{AtEnd, AtGet, Stopped, stop_of}
 use Rattle.protocol_laws.specs.of_protocol.Releases.{release_step}
 use Rattle.protocol_laws.specs.of_protocol.Runs.{begins_run, is_free, leaves_if_free, push_reached}
 use Rattle.protocol_laws.specs.of_protocol.Steps.{logs_all, with_phase, with_run}
-use Rattle.protocol_laws.specs.of_protocol.Tables.{HasEnded, Out, Run, Waits}
-use Rattle.protocol_laws.specs.of_protocol.Whole.{worker_does, worker_does_at, worker_does_by}
+use Rattle.protocol_laws.specs.of_protocol.Tables.{HasEnded, Out, Execution, Waits}
+use Rattle.protocol_laws.specs.of_protocol.Cluster.{worker_does, worker_does_at, worker_does_by}
 use Rattle.protocol_laws.proofs.of_protocol_owed.Moves as M
 use Rattle.protocol_laws.proofs.of_protocol_owed.Nodes as N
 use Rattle.protocol_laws.proofs.of_protocol_owed.NodeMoves.{IsKeptThere, asks_slot-kept, frees-kept}
@@ -70,11 +70,11 @@ replied_keys asks k x j y e =
     at_test (λ b. same_key k j ≡ b → ((z : AskReply) × (reply_in asks j ≡ Some z)) ⊎ (k ≡ j)) (same_key k j)
     (λ _ f. inr (same_key-true k j f)) (λ _ f. inl (y, sym (reply-other asks k j x f) ∙ e)) refl
 
-leases_keys : (t : There) (k : AskKey) (o : Option ℕ) → KeysAnd k (sch t) (sch (leases_idle t k o))
+leases_keys : (t : NodeContext) (k : AskKey) (o : Option ℕ) → KeysAnd k (sch t) (sch (leases_idle t k o))
 leases_keys t k None j x e = replied_keys (sch t).asks k _ j x e
 leases_keys t k (Some w) j x e = replied_keys (sch t).asks k _ j x e
 
-pub asked_keys : (t : There) (k : AskKey) (o : Option AskReply) → KeysAnd k (sch t) (sch (asked_by t k o))
+pub asked_keys : (t : NodeContext) (k : AskKey) (o : Option AskReply) → KeysAnd k (sch t) (sch (asked_by t k o))
 asked_keys t k None =
     at_test (λ b. KeysAnd k (sch t) (sch (if b then gives_worker t k else has_no_slot_for t k))) (has_free_slot (sch t))
     (λ _. leases_keys t k (least (sch t).idle))
@@ -87,7 +87,7 @@ asked_keys t k (Some y) = λ j x e. inl (x, e)
 known : (s t : Scheduler) (k : AskKey) (y : AskReply) → reply_to s k ≡ Some y → KeysAnd k s t → Keys s t
 known s t k y e keys j x f = elim (keys j x f) [ inl g ↦ g | inr same ↦ (y, ap (reply_to s) (sym same) ∙ e) ]
 
-grants_queued_keys : (t : There) (queue : List AskKey) → (sch t).queue ≡ queue → QueueIsRight (sch t).asks (sch t).queue →
+grants_queued_keys : (t : NodeContext) (queue : List AskKey) → (sch t).queue ≡ queue → QueueIsRight (sch t).asks (sch t).queue →
     Keys (sch t) (sch (grants_queued t (first_item queue)))
 grants_queued_keys t [] e q = same_keys (sch t)
 grants_queued_keys t (k ∷ ks) e q =
@@ -96,7 +96,7 @@ grants_queued_keys t (k ∷ ks) e q =
     known (sch t) (sch (leases_idle (with_scheduler t u) k (least u.idle))) k Queued (q.waiting k there)
     (λ j x f. leases_keys (with_scheduler t u) k (least u.idle) j x f)
 
-grants_keys : (t : There) → QueueIsRight (sch t).asks (sch t).queue → Keys (sch t) (sch (grants t))
+grants_keys : (t : NodeContext) → QueueIsRight (sch t).asks (sch t).queue → Keys (sch t) (sch (grants t))
 grants_keys t q =
     at_test (λ b. Keys (sch t) (sch (if b then grants_next t (first_item (sch t).answered) else t))) (has_free_slot (sch t))
     (λ _. by_answered (first_item (sch t).answered)) (λ _. same_keys (sch t))
@@ -105,17 +105,17 @@ grants_keys t q =
     by_answered None = grants_queued_keys t (sch t).queue refl q
     by_answered (Some w) = λ j x e. (x, e)
 
-frees_keys : (t : There) (w : ℕ) → QueueIsRight (sch t).asks (sch t).queue → Keys (sch t) (sch (frees t w))
+frees_keys : (t : NodeContext) (w : ℕ) → QueueIsRight (sch t).asks (sch t).queue → Keys (sch t) (sch (frees t w))
 frees_keys t w q =
     at_test (λ b. Keys (sch t) (sch (if b then grants (with_scheduler t (without_slot (sch t) w)) else t))) (has (sch t).holders w)
     (λ _ j x e. grants_keys (with_scheduler t (without_slot (sch t) w)) q j x e) (λ _. same_keys (sch t))
 
-slot_keys : (t : There) (w : ℕ) → QueueIsRight (sch t).asks (sch t).queue → Keys (sch t) (sch (asks_slot t w))
+slot_keys : (t : NodeContext) (w : ℕ) → QueueIsRight (sch t).asks (sch t).queue → Keys (sch t) (sch (asks_slot t w))
 slot_keys t w q =
     at_test (λ b. Keys (sch t) (sch (if b then t else grants (with_scheduler t (with_answered (sch t) w))))) (has (sch t).holders w || has (sch t).answered w)
     (λ _. same_keys (sch t)) (λ _ j x e. grants_keys (with_scheduler t (with_answered (sch t) w)) q j x e)
 
-pub forgets_keys : (t : There) (w : ℕ) → QueueIsRight (sch t).asks (sch t).queue → Keys (sch t) (sch (forgets t w))
+pub forgets_keys : (t : NodeContext) (w : ℕ) → QueueIsRight (sch t).asks (sch t).queue → Keys (sch t) (sch (forgets t w))
 forgets_keys t w q j x e = frees_keys (with_scheduler t (without_worker (sch t) w)) w q j x e
 
 -- ---- answers that came
@@ -126,8 +126,8 @@ stands_some None k m e = absurd e
 stands_some (Some x) k m e = (x, refl)
 
 -- what a node answered it was asked
-pub answer_asked : (c : Whole) → NodesAreRight c → KeepsAsks c → (n t : ℕ) (a : Attempt) (m : Message) → IsAnswer a t m →
-    Among (letter (TheNode n) (TheWorker a.object.owner) m) c.network → A.Asked c.network a t n
+pub answer_asked : (c : ClusterState) → NodesAreRight c → KeepsAsks c → (n t : ℕ) (a : Attempt) (m : Message) → IsAnswer a t m →
+    Among (envelope (TheNode n) (TheWorker a.object.owner) m) c.network → A.Asked c.network a t n
 answer_asked c right keeps n t a m is came =
     let there = right.senders _ n came refl in
     let r = right.each n there.0 there.1 in
@@ -136,14 +136,14 @@ answer_asked c right keeps n t a m is came =
 
 -- ---- the end of an event
 
-pub last_dead : (dead next : ℕ → Type 0) (s : List Letter) (a : Attempt) (t n : ℕ) → ((m : ℕ) → dead m → next m) → IsLast dead s a t n → IsLast next s a t n
+pub last_dead : (dead next : ℕ → Type 0) (s : List Envelope) (a : Attempt) (t n : ℕ) → ((m : ℕ) → dead m → next m) → IsLast dead s a t n → IsLast next s a t n
 last_dead dead next s a t n more l i m e = elim (l i m e) [
   | inl f ↦ inl f
   | inr (f, p) ↦ inr (f, elim p [ inl sent ↦ inl sent | inr d ↦ inr (more m d) ])
 ]
 
 -- owners' clauses stay as more nodes are dead
-pub owns_dead : (dead next : ℕ → Type 0) (s : List Letter) (v : ℕ) (x : Worker) → ((n : ℕ) → dead n → next n) → OwnsAsks dead s v x → OwnsAsks next s v x
+pub owns_dead : (dead next : ℕ → Type 0) (s : List Envelope) (v : ℕ) (x : Worker) → ((n : ℕ) → dead n → next n) → OwnsAsks dead s v x → OwnsAsks next s v x
 owns_dead dead next s v x more q = record {
   none = q.none;
   later = q.later;
@@ -154,7 +154,7 @@ owns_dead dead next s v x more q = record {
   begun = q.begun;
 }
 
-new_owns : (dead : ℕ → Type 0) (s : List Letter) (v m : ℕ) → ((k i : ℕ) → A.Touched s (attempt (object_id v k) i) → ⊥) → OwnsAsks dead s v (new_worker m)
+new_owns : (dead : ℕ → Type 0) (s : List Envelope) (v m : ℕ) → ((k i : ℕ) → A.Touched s (attempt (object_id v k) i) → ⊥) → OwnsAsks dead s v (new_worker m)
 new_owns dead s v m untouched = record {
   none = λ k i e f. untouched k i f;
   later = λ k i task e less f. untouched k i f;
@@ -169,16 +169,16 @@ new_owns dead s v m untouched = record {
     no_task zero task e = cc
     no_task (suc i) task e = cc
 
--- a node is put back, with letters and workers that it made
-module _ (c d : Whole) (n : ℕ) (node : Node) (t : There) (stood : node_at d n ≡ Some node) (same_nodes : d.nodes ≡ c.nodes)
+-- a node is put back, with envelopes and workers that it made
+module _ (c d : ClusterState) (n : ℕ) (node : Node) (t : NodeContext) (stood : node_at d n ≡ Some node) (same_nodes : d.nodes ≡ c.nodes)
     (same_network : d.network ≡ c.network)
     (lives : t.node.is_live ≡ node.is_live) (keeps : KeepsAsks c)
-    (mine : (v : ℕ) (y : Worker) → worker_at d v ≡ Some y → OwnsAsks (IsDeadNode c) (d.network ++ t.out.letters) v y)
+    (mine : (v : ℕ) (y : Worker) → worker_at d v ≡ Some y → OwnsAsks (IsDeadNode c) (d.network ++ t.out.envelopes) v y)
     (there_too : (v : ℕ) (y : Worker) → worker_at c v ≡ Some y → (z : Worker) × (worker_at d v ≡ Some z))
-    (closed : (a : Attempt) (w : ℕ) → Pushed (d.network ++ t.out.letters) a w → A.IsClosed (IsDeadNode c) (d.network ++ t.out.letters) a w)
-    (owned : (a : Attempt) → A.Touched (d.network ++ t.out.letters) a → (y : Worker) × (worker_at c a.object.owner ≡ Some y))
-    (asked : (k : AskKey) (x : AskReply) → reply_to t.node.scheduler k ≡ Some x → A.Asked (d.network ++ t.out.letters) k.attempt k.t n) where
-  abbrev after : Whole
+    (closed : (a : Attempt) (w : ℕ) → Pushed (d.network ++ t.out.envelopes) a w → A.IsClosed (IsDeadNode c) (d.network ++ t.out.envelopes) a w)
+    (owned : (a : Attempt) → A.Touched (d.network ++ t.out.envelopes) a → (y : Worker) × (worker_at c a.object.owner ≡ Some y))
+    (asked : (k : AskKey) (x : AskReply) → reply_to t.node.scheduler k ≡ Some x → A.Asked (d.network ++ t.out.envelopes) k.attempt k.t n) where
+  abbrev after : ClusterState
   after = (after_node d n t).whole
 
   dead_more : (m : ℕ) → IsDeadNode c m → IsDeadNode after m
@@ -223,8 +223,8 @@ module _ (c d : Whole) (n : ℕ) (node : Node) (t : There) (stood : node_at d n 
       earlier m k' k x at r =
           let old = keeps.nodes m k' k x (subst (λ ns. item_at ns m ≡ Some k') same_nodes at) r in (
             old.0,
-            among-more d.network t.out.letters (letter (TheWorker old.0) (TheNode m) (Ask k.attempt k.t))
-                (subst (λ ls. Among (letter (TheWorker old.0) (TheNode m) (Ask k.attempt k.t)) ls) (sym same_network) old.1),
+            among-more d.network t.out.envelopes (envelope (TheWorker old.0) (TheNode m) (Ask k.attempt k.t))
+                (subst (λ ls. Among (envelope (TheWorker old.0) (TheNode m) (Ask k.attempt k.t)) ls) (sym same_network) old.1),
           )
 
       not_there : (v : ℕ) → worker_at d v ≡ None → (y : Worker) × (worker_at c v ≡ Some y) → ⊥
@@ -232,7 +232,7 @@ module _ (c d : Whole) (n : ℕ) (node : Node) (t : There) (stood : node_at d n 
 
 -- ---- beside an event
 
-abbrev Lives : Bool → There → Type 0
+abbrev Lives : Bool → NodeContext → Type 0
 Lives b t = t.node.is_live ≡ b
 
 lives_there : (b : Bool) → IsKeptThere (Lives b)
@@ -241,8 +241,8 @@ lives_there b = record { opens = λ t w e. e; says = λ t w m e. e; scheduler = 
 keys_then : (s t u : Scheduler) → Keys s t → Keys t u → Keys s u
 keys_then s t u p q j x e = let f = q j x e in p j f.0 f.1
 
-module _ (c : Whole) (n : ℕ) (node : Node) where
-  pub record Beside (h : Here) : Type 0 where
+module _ (c : ClusterState) (n : ℕ) (node : Node) where
+  pub record Beside (h : WorkerContext) : Type 0 where
     pub tells : N.Goes c.network c.slots n h
     pub keys : Keys node.scheduler h.there.node.scheduler
     pub lives : h.there.node.is_live ≡ node.is_live
@@ -270,18 +270,18 @@ module _ (c : Whole) (n : ℕ) (node : Node) where
 
 -- ---- an event of a worker
 
-module _ (c : Whole) (me : ℕ) (x : Worker) (at : worker_at c me ≡ Some x) where
-  abbrev Q : Here → Type 0
+module _ (c : ClusterState) (me : ℕ) (x : Worker) (at : worker_at c me ≡ Some x) where
+  abbrev Q : WorkerContext → Type 0
   Q = Asks c me x at (IsDeadNode c)
 
-  abbrev Kept : (Here → Type 0) → Type 0
+  abbrev Kept : (WorkerContext → Type 0) → Type 0
   Kept P = IsKept (ToldOf c me x at (IsDeadNode c)) (OverBy c me x at (IsDeadNode c)) (GivenOf c me x at (IsDeadNode c)) (PassedBy c me x at (IsDeadNode c)) P
 
   q_kept : Kept Q
   q_kept = asks_kept c me x at (IsDeadNode c)
 
   module _ (node : Node) (home : node_at c x.node ≡ Some node) (keeps : KeepsAsks c) (right : NodesAreRight c) where
-    abbrev start : Here
+    abbrev start : WorkerContext
     start = here c me x node
 
     begins : Q start
@@ -291,9 +291,9 @@ module _ (c : Whole) (me : ℕ) (x : Worker) (at : worker_at c me ≡ Some x) wh
     begins_beside : Beside c x.node node start
     begins_beside = record { tells = N.at_rest c x.node node home right; keys = same_keys node.scheduler; lives = refl }
 
-    pub worker_asks : (f : Here → Here) → N.Keeps f → (Q start → Q (f start)) → KeepsAsks (worker_does_at c me x f (Some node)).whole
+    pub worker_asks : (f : WorkerContext → WorkerContext) → N.Keeps f → (Q start → Q (f start)) → KeepsAsks (worker_does_at c me x f (Some node)).whole
     worker_asks f moves step =
-        let g : Here = release_step (f start) in
+        let g : WorkerContext = release_step (f start) in
         let a : Q g = release_step-kept (ToldOf c me x at (IsDeadNode c)) (OverBy c me x at (IsDeadNode c)) (GivenOf c me x at (IsDeadNode c))
         (PassedBy c me x at (IsDeadNode c))
         Q q_kept (f start) (step begins) in
@@ -301,21 +301,21 @@ module _ (c : Whole) (me : ℕ) (x : Worker) (at : worker_at c me ≡ Some x) wh
         (moves (Beside c x.node node) (beside_kept c x.node node) start begins_beside) in
         asks_end c (record c { workers = changed_at c.workers me (λ _. g.worker) }) x.node node g.there home refl refl b.lives keeps
         (λ v y e. elim (changed_cases c.workers me v (λ _. g.worker) y e) [
-          | inl (same, _, _, is) ↦ subst (λ i. OwnsAsks (IsDeadNode c) (c.network ++ g.there.out.letters) i y) (sym same)
-              (subst (OwnsAsks (IsDeadNode c) (c.network ++ g.there.out.letters) me) (sym is) a.mine)
+          | inl (same, _, _, is) ↦ subst (λ i. OwnsAsks (IsDeadNode c) (c.network ++ g.there.out.envelopes) i y) (sym same)
+              (subst (OwnsAsks (IsDeadNode c) (c.network ++ g.there.out.envelopes) me) (sym is) a.mine)
           | inr (apart, before) ↦ a.others v y apart before
         ])
         (λ v y e. there_still c.workers me v (λ _. g.worker) y e) a.closed a.owned
         (λ k r e.
         let old = b.keys k r e in
         let asked = keeps.nodes x.node node k old.0 home old.1 in
-        (asked.0, among-more c.network g.there.out.letters (letter (TheWorker asked.0) (TheNode x.node) (Ask k.attempt k.t)) asked.1))
+        (asked.0, among-more c.network g.there.out.envelopes (envelope (TheWorker asked.0) (TheNode x.node) (Ask k.attempt k.t)) asked.1))
 
-abbrev pub Steps : Whole → ℕ → (Here → Here) → Type 0
+abbrev pub Steps : ClusterState → ℕ → (WorkerContext → WorkerContext) → Type 0
 Steps c w f = (x : Worker) (at : worker_at c w ≡ Some x) (node : Node) → node_at c x.node ≡ Some node → Q c w x at (here c w x node) →
     Q c w x at (f (here c w x node))
 
-pub worker_event : (c : Whole) (w : ℕ) (f : Here → Here) → N.Keeps f → Steps c w f → NodesAreRight c → KeepsAsks c → KeepsAsks (worker_does c w f).whole
+pub worker_event : (c : ClusterState) (w : ℕ) (f : WorkerContext → WorkerContext) → N.Keeps f → Steps c w f → NodesAreRight c → KeepsAsks c → KeepsAsks (worker_does c w f).whole
 worker_event c w f moves steps right k = by_worker (worker_at c w) refl
   where
     by_node : (x : Worker) → worker_at c w ≡ Some x → (o : Option Node) → node_at c x.node ≡ o → KeepsAsks (worker_does_at c w x f o).whole
@@ -328,39 +328,39 @@ worker_event c w f moves steps right k = by_worker (worker_at c w) refl
 
 -- ---- the worker's own steps
 
-module _ (c : Whole) (me : ℕ) (x : Worker) (at : worker_at c me ≡ Some x) where
-  abbrev R : Here → Type 0
+module _ (c : ClusterState) (me : ℕ) (x : Worker) (at : worker_at c me ≡ Some x) where
+  abbrev R : WorkerContext → Type 0
   R = Q c me x at
 
-  same : (h : Here) (y : Worker) → y.objects ≡ h.worker.objects → R h → AsksOf c me x at (IsDeadNode c) h.me y (c.network ++ h.there.out.letters)
-  same h y e q = same_asks c me x at (IsDeadNode c) h.me h.worker y (c.network ++ h.there.out.letters) (λ k. ap (λ ys. task_of (item_at ys k)) e) q
+  same : (h : WorkerContext) (y : Worker) → y.objects ≡ h.worker.objects → R h → AsksOf c me x at (IsDeadNode c) h.me y (c.network ++ h.there.out.envelopes)
+  same h y e q = same_asks c me x at (IsDeadNode c) h.me h.worker y (c.network ++ h.there.out.envelopes) (λ k. ap (λ ys. task_of (item_at ys k)) e) q
 
-  push_step : (h : Here) (a : Attempt) (spec : Birth) → R h → R (push_reached h a spec)
+  push_step : (h : WorkerContext) (a : Attempt) (spec : Birth) → R h → R (push_reached h a spec)
   push_step h a spec q =
       at_test (λ b. R (if b then begins_run h a spec else h)) (is_free h.worker.run && not (list_any (λ b. same_attempt b a) h.worker.began))
       (λ _. same h (begins_run h a spec).worker refl q) (λ _. q)
 
-  pub claim_asks : (h : Here) (j : ℕ) → R h → R (claim_step h j)
+  pub claim_asks : (h : WorkerContext) (j : ℕ) → R h → R (claim_step h j)
   claim_asks h j q = by_run h.worker.run
     where
-      by_run : (r : Option Run) → R (claim_by h j r)
+      by_run : (r : Option Execution) → R (claim_by h j r)
       by_run None = q
       by_run (Some run) = same h (with_phase h run (Out j)).worker refl q
 
   T : Kept c me x at R
   T = q_kept c me x at
 
-  ends_asks : (h : Here) (run : Run) (cs : List Outcome) → R h → R (ends h run cs)
+  ends_asks : (h : WorkerContext) (run : Execution) (cs : List Outcome) → R h → R (ends h run cs)
   ends_asks h run cs q =
-      let g : Here = with_phase h run (HasEnded cs) in
-      let held : Here = keeps_contents g run.attempt.object run.attempt.number cs in
+      let g : WorkerContext = with_phase h run (HasEnded cs) in
+      let held : WorkerContext = keeps_contents g run.attempt.object run.attempt.number cs in
       frees_asks c me x at (IsDeadNode c) (leaves_if_free held)
       (leaves_if_free-kept (ToldOf c me x at (IsDeadNode c)) (OverBy c me x at (IsDeadNode c)) (GivenOf c me x at (IsDeadNode c))
       (PassedBy c me x at (IsDeadNode c)) R T held
       (keeps_contents-kept (ToldOf c me x at (IsDeadNode c)) (OverBy c me x at (IsDeadNode c)) (GivenOf c me x at (IsDeadNode c))
       (PassedBy c me x at (IsDeadNode c)) R T g run.attempt.object run.attempt.number cs (same h g.worker refl q)))
 
-  stops_asks : (h : Here) (stop : Stopped) (r : Option Run) → R h → R (stops_by h stop r)
+  stops_asks : (h : WorkerContext) (stop : Stopped) (r : Option Execution) → R h → R (stops_by h stop r)
   stops_asks h stop None q = q
   stops_asks h (AtGet y) (Some run) q =
       needs-kept (ToldOf c me x at (IsDeadNode c)) (OverBy c me x at (IsDeadNode c)) (GivenOf c me x at (IsDeadNode c))
@@ -368,15 +368,15 @@ module _ (c : Whole) (me : ℕ) (x : Worker) (at : worker_at c me ≡ Some x) wh
       (same h (with_phase h run (Waits y None)).worker refl q)
   stops_asks h (AtEnd content) (Some run) q = ends_asks h run content q
 
-  pub commit_asks : (h : Here) (o : Outcomes) → R h → R (commit_step h o)
+  pub commit_asks : (h : WorkerContext) (o : Outcomes) → R h → R (commit_step h o)
   commit_asks h o q = by_run h.worker.run
     where
-      by_run : (r : Option Run) → R (commit_by h o r)
+      by_run : (r : Option Execution) → R (commit_by h o r)
       by_run None = q
       by_run (Some run) =
           let es : List Entry = commit_entries run.attempt (next_id_here h) o.births o.prints (stop_of o.stop) in
-          let g : Here = logs_all (with_run h (with_outcomes run o)) es in
-          let borne : Here = bears_all g run.attempt o.births in
+          let g : WorkerContext = logs_all (with_run h (with_outcomes run o)) es in
+          let borne : WorkerContext = bears_all g run.attempt o.births in
           stops_asks borne o.stop borne.worker.run
           (bears_all-kept (ToldOf c me x at (IsDeadNode c)) (OverBy c me x at (IsDeadNode c)) (GivenOf c me x at (IsDeadNode c))
           (PassedBy c me x at (IsDeadNode c)) R T g run.attempt o.births
@@ -385,20 +385,20 @@ module _ (c : Whole) (me : ℕ) (x : Worker) (at : worker_at c me ≡ Some x) wh
   -- ---- what comes
 
   module _ (node : Node) (home : node_at c x.node ≡ Some node) (keeps : KeepsAsks c) (right : NodesAreRight c) (leases : KeepsLeases c) where
-    abbrev first : Here
+    abbrev first : WorkerContext
     first = here c me x node
 
-    abbrev Heard : Party → Message → Type 0
+    abbrev Heard : Endpoint → Message → Type 0
     Heard = IsHeardFrom (ToldOf c me x at (IsDeadNode c)) (OverBy c me x at (IsDeadNode c)) (GivenOf c me x at (IsDeadNode c))
         (PassedBy c me x at (IsDeadNode c)) R T first
 
     told : (u : ℕ) (a : Attempt) → IsDone (worker_at c) u a → ToldOf c me x at (IsDeadNode c) u a
     told u a d = elim ((leases.workers.each u d.worker d.there).began a d.done.listed) [ inl (main, _) ↦ inr main | inr p ↦ inl p ]
 
-    heard_worker : (u : ℕ) (m : Message) → Among (letter (TheWorker u) (TheWorker me) m) c.network → R first → Heard (TheWorker u) m
+    heard_worker : (u : ℕ) (m : Message) → Among (envelope (TheWorker u) (TheWorker me) m) c.network → R first → Heard (TheWorker u) m
     heard_worker u (Push a spec) came q = push_step first a spec q
-    heard_worker u (Finished a n rs) came q = told u a (leases.workers.letters _ came)
-    heard_worker u (Failed a f) came q = told u a (leases.workers.letters _ came)
+    heard_worker u (Finished a n rs) came q = told u a (leases.workers.envelopes _ came)
+    heard_worker u (Failed a f) came q = told u a (leases.workers.envelopes _ came)
     heard_worker u (FinishedAck a) came q = tt
     heard_worker u (Ask a t) came q = tt
     heard_worker u (Give a t v) came q = tt
@@ -416,7 +416,7 @@ module _ (c : Whole) (me : ℕ) (x : Worker) (at : worker_at c me ≡ Some x) wh
     heard_worker u (Unhold e o why) came q = tt
 
     -- the node that sent the ask on is the one that was asked
-    passed : (n t m : ℕ) (a : Attempt) → Among (letter (TheNode n) (TheWorker a.object.owner) (Elsewhere a t m)) c.network → (own : OwnTask) (i : ℕ) →
+    passed : (n t m : ℕ) (a : Attempt) → Among (envelope (TheNode n) (TheWorker a.object.owner) (Elsewhere a t m)) c.network → (own : OwnTask) (i : ℕ) →
         a.object.owner ≡ me →
         task_of (object_at first a.object) ≡ Some own → own.progress ≡ AskedAt t i → own.number ≡ a.number → IsPassed (IsDeadNode c) c.network a t i
     passed n t m a came own i mine there progress number =
@@ -431,13 +431,13 @@ module _ (c : Whole) (me : ℕ) (x : Worker) (at : worker_at c me ≡ Some x) wh
           | inr (less, _) ↦ absurd (omega (arith, less))
         ]
 
-    heard_node : (n : ℕ) (m : Message) → Among (letter (TheNode n) (TheWorker me) m) c.network → Heard (TheNode n) m
+    heard_node : (n : ℕ) (m : Message) → Among (envelope (TheNode n) (TheWorker me) m) c.network → Heard (TheNode n) m
     heard_node n (Give a t v) came = λ own.
-        let sent : Among (letter (TheNode n) (TheWorker a.object.owner) (Give a t v)) c.network =
-        subst (λ u. Among (letter (TheNode n) (TheWorker u) (Give a t v)) c.network) (sym own) came in
+        let sent : Among (envelope (TheNode n) (TheWorker a.object.owner) (Give a t v)) c.network =
+        subst (λ u. Among (envelope (TheNode n) (TheWorker u) (Give a t v)) c.network) (sym own) came in
         record { given = sent; asked = answer_asked c right keeps n t a (Give a t v) (inl (v, refl)) sent }
     heard_node n (Elsewhere a t m) came = λ own i mine there progress number.
-        passed n t m a (subst (λ u. Among (letter (TheNode n) (TheWorker u) (Elsewhere a t m)) c.network) (sym mine) came) own i mine there progress number
+        passed n t m a (subst (λ u. Among (envelope (TheNode n) (TheWorker u) (Elsewhere a t m)) c.network) (sym mine) came) own i mine there progress number
     heard_node n (Push a spec) came = tt
     heard_node n (Finished a m rs) came = tt
     heard_node n (Failed a f) came = tt
@@ -455,11 +455,11 @@ module _ (c : Whole) (me : ℕ) (x : Worker) (at : worker_at c me ≡ Some x) wh
     heard_node n (HoldAck e o) came = tt
     heard_node n (Unhold e o why) came = tt
 
-    heard_from : (from : Party) (m : Message) → Among (letter from (TheWorker me) m) c.network → R first → Heard from m
+    heard_from : (from : Endpoint) (m : Message) → Among (envelope from (TheWorker me) m) c.network → R first → Heard from m
     heard_from (TheWorker u) m came q = heard_worker u m came q
     heard_from (TheNode n) m came q = heard_node n m came
 
-    pub reached_asks : (from : Party) (m : Message) → Among (letter from (TheWorker me) m) c.network → R first → R (reached first from m)
+    pub reached_asks : (from : Endpoint) (m : Message) → Among (envelope from (TheWorker me) m) c.network → R first → R (reached first from m)
     reached_asks from m came q =
         reached-kept (ToldOf c me x at (IsDeadNode c)) (OverBy c me x at (IsDeadNode c)) (GivenOf c me x at (IsDeadNode c))
         (PassedBy c me x at (IsDeadNode c)) R T first from m (heard_from from m came q) q

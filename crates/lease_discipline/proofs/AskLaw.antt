@@ -8,17 +8,17 @@ use Rattle.event_log.specs.Entries.{Refusal, NotDead, Limit}
 use Rattle.event_log.specs.Breaks.{Among}
 use Rattle.protocol_laws.specs.of_protocol.Numbered.{item_at, changed_at}
 use Rattle.protocol_laws.specs.of_protocol.Sets.{repeated}
-use Rattle.protocol_laws.specs.of_protocol.Messages.{Letter, letter, Message, Party, TheWorker, TheNode, Ask, Give, Elsewhere, Wait, Back, Push, Finished, FinishedAck, Failed}
+use Rattle.protocol_laws.specs.of_protocol.Messages.{Envelope, envelope, Message, Endpoint, TheWorker, TheNode, Ask, Give, Elsewhere, Wait, Back, Push, Finished, FinishedAck, Failed}
 use Rattle.protocol_laws.specs.of_protocol.Messages.{Where, At, Gone, Fetch, CopyOf, Missing, Hold, HoldAck, Unhold}
-use Rattle.protocol_laws.specs.of_protocol.Jobs.{Given, Handed, Job, Nothing, OfAnother, OfJob}
-use Rattle.protocol_laws.specs.of_protocol.Nodes.{AskKey, AskReply, Node, There, new_node}
+use Rattle.protocol_laws.specs.of_protocol.Jobs.{JobRecord, CommitInput, Job, Nothing, OfAnother, OfJob}
+use Rattle.protocol_laws.specs.of_protocol.Nodes.{AskKey, AskReply, Node, NodeContext, new_node}
 use Rattle.meaning.specs.Values.{Outcome}
 use Rattle.protocol_laws.specs.of_protocol.Nodes.{with_scheduler}
 use Rattle.protocol_laws.specs.of_protocol.Stores.{copy_in}
 use Rattle.protocol_laws.specs.of_protocol.Slots.{fetched, may_be_idle, with_idle}
 use Rattle.protocol_laws.specs.of_protocol.Slots.{ask_key, forgets, node_reached, reply_to}
 use Rattle.protocol_laws.specs.of_protocol.Tables.{OwnTask, Worker, task_of}
-use Rattle.protocol_laws.specs.of_protocol.Whole.{Whole, Moved, driver, first_whole, here, moved, node_at, node_does, node_does_by, there, worker_at, worker_does}
+use Rattle.protocol_laws.specs.of_protocol.Cluster.{ClusterState, Transition, driver, first_whole, here, moved, node_at, node_does, node_does_by, there, worker_at, worker_does}
 use Rattle.protocol_laws.specs.of_protocol.Commits.{claim_step, commit_step}
 use Rattle.protocol_laws.specs.of_protocol.Notices.{notice_step, notice_node_step}
 use Rattle.protocol_laws.specs.of_protocol.Ticks.{tick_step}
@@ -29,7 +29,7 @@ use Rattle.protocol_laws.specs.of_protocol.Answers.{Refuses, decided, takes, giv
 use Rattle.protocol_laws.specs.of_protocol.Refusals.{is_dead_node, is_within_limits, no_worker, refusal, unless}
 use Rattle.protocol_laws.specs.of_protocol_owed.Runs.{Handing, Running, after_event, after_events, opening_run}
 use Rattle.protocol_laws.proofs.of_protocol_owed.CourseAll.{both_passed, passed}
-use Rattle.protocol_laws.proofs.of_protocol_owed.Letters.{among-append_cases, among-more, among-nothing, among-push_cases}
+use Rattle.protocol_laws.proofs.of_protocol_owed.Envelopes.{among-append_cases, among-more, among-nothing, among-push_cases}
 use Rattle.protocol_laws.proofs.of_protocol_owed.Moves as M
 use Rattle.protocol_laws.proofs.of_protocol_owed.Nodes as N
 use Rattle.protocol_laws.proofs.of_protocol_owed.Nodes.{NodesAreRight, answered-right, changed_cases, there_more, there_still}
@@ -52,36 +52,36 @@ use Rattle.lease_discipline.proofs.Turns.{sch}
 
 -- ---- an event of a node
 
-abbrev Says : There → Type 0
-Says t = (l : Letter) → Among l t.out.letters → (k : ℕ) × (l.sender ≡ TheNode k)
+abbrev Says : NodeContext → Type 0
+Says t = (l : Envelope) → Among l t.out.envelopes → (k : ℕ) × (l.sender ≡ TheNode k)
 
 says_only : IsKeptThere Says
 says_only = record {
   opens = λ t w q. q;
-  says = λ t w m q l e. elim (among-push_cases t.out.letters _ l e) [ inl f ↦ q l f | inr f ↦ (t.number, ap (λ (x : Letter). x.sender) f) ];
+  says = λ t w m q l e. elim (among-push_cases t.out.envelopes _ l e) [ inl f ↦ q l f | inr f ↦ (t.number, ap (λ (x : Envelope). x.sender) f) ];
   scheduler = λ t s q. q;
   store = λ t s q. q;
 }
 
-no_node : (u k : ℕ) → ◌≡◌ {A = Party} (TheWorker u) (TheNode k) → ⊥
+no_node : (u k : ℕ) → ◌≡◌ {A = Endpoint} (TheWorker u) (TheNode k) → ⊥
 no_node u k e = cc
 
-says_quiet : (net : List Letter) (t : There) → Says t → TouchesOnly Nobody net (net ++ t.out.letters)
+says_quiet : (net : List Envelope) (t : NodeContext) → Says t → TouchesOnly Nobody net (net ++ t.out.envelopes)
 says_quiet net t q = record {
-  more = λ l e. among-more net t.out.letters l e;
-  asked = λ a i n e. elim (among-append_cases net t.out.letters _ e.1) [ inl f ↦ inl (e.0, f) | inr f ↦ let s = q _ f in absurd (no_node e.0 s.0 s.1) ];
-  pushed = λ a w e. elim (among-append_cases net t.out.letters _ e.2) [ inl f ↦ inl (e.0, e.1, f) | inr f ↦ let s = q _ f in absurd (no_node e.0 s.0 s.1) ];
+  more = λ l e. among-more net t.out.envelopes l e;
+  asked = λ a i n e. elim (among-append_cases net t.out.envelopes _ e.1) [ inl f ↦ inl (e.0, f) | inr f ↦ let s = q _ f in absurd (no_node e.0 s.0 s.1) ];
+  pushed = λ a w e. elim (among-append_cases net t.out.envelopes _ e.2) [ inl f ↦ inl (e.0, e.1, f) | inr f ↦ let s = q _ f in absurd (no_node e.0 s.0 s.1) ];
 }
 
-abbrev Alive : Bool → There → Type 0
+abbrev Alive : Bool → NodeContext → Type 0
 Alive b t = t.node.is_live ≡ b
 
 alive_kept : (b : Bool) → IsKeptThere (Alive b)
 alive_kept b = record { opens = λ t w e. e; says = λ t w m e. e; scheduler = λ t s e. e; store = λ t s e. e }
 
 -- a node's step beside workers whose tasks are the same
-node_asks : (c d : Whole) (n : ℕ) (f : There → There) → d.nodes ≡ c.nodes → d.network ≡ c.network →
-    ((Q : There → Type 0) → IsKeptThere Q → (t : There) → Q t → Q (f t)) →
+node_asks : (c d : ClusterState) (n : ℕ) (f : NodeContext → NodeContext) → d.nodes ≡ c.nodes → d.network ≡ c.network →
+    ((Q : NodeContext → Type 0) → IsKeptThere Q → (t : NodeContext) → Q t → Q (f t)) →
     ((v : ℕ) (y : Worker) → worker_at d v ≡ Some y → OwnsAsks (IsDeadNode c) d.network v y) →
     ((v : ℕ) (y : Worker) → worker_at c v ≡ Some y → (z : Worker) × (worker_at d v ≡ Some z)) →
     ((node : Node) → node_at d n ≡ Some node → (k : AskKey) (x : AskReply) → reply_to (sch (f (there d n node))) k ≡ Some x → A.Asked d.network k.attempt k.t n) →
@@ -91,26 +91,26 @@ node_asks c d n f nodes network moves mine too asked k kd = by_node (node_at d n
     by_node : (o : Option Node) → node_at d n ≡ o → KeepsAsks (node_does_by d n f o).whole
     by_node None e = kd
     by_node (Some node) e =
-        let t : There = f (there d n node) in
-        let quiet : TouchesOnly Nobody d.network (d.network ++ t.out.letters) =
+        let t : NodeContext = f (there d n node) in
+        let quiet : TouchesOnly Nobody d.network (d.network ++ t.out.envelopes) =
         says_quiet d.network t (moves Says says_only (there d n node) (λ l i. absurd (among-nothing l i))) in
         asks_end c d n node t e nodes network (moves (Alive node.is_live) (alive_kept node.is_live) (there d n node) refl) k
-        (λ v y at. owns_more (IsDeadNode c) Nobody d.network (d.network ++ t.out.letters) v y quiet (λ i j g. g) (mine v y at)) too
+        (λ v y at. owns_more (IsDeadNode c) Nobody d.network (d.network ++ t.out.envelopes) v y quiet (λ i j g. g) (mine v y at)) too
         (λ a w g. elim (quiet.pushed a w g) [
-          | inl h ↦ closed_more (IsDeadNode c) Nobody d.network (d.network ++ t.out.letters) a w quiet (λ i. i)
+          | inl h ↦ closed_more (IsDeadNode c) Nobody d.network (d.network ++ t.out.envelopes) a w quiet (λ i. i)
               (subst (λ ls. A.IsClosed (IsDeadNode c) ls a w) (sym network) (k.closed a w (subst (λ ls. Pushed ls a w) network h)))
           | inr h ↦ absurd h
         ])
-        (λ a g. elim (touched_before Nobody d.network (d.network ++ t.out.letters) a quiet g) [
+        (λ a g. elim (touched_before Nobody d.network (d.network ++ t.out.envelopes) a quiet g) [
           | inl h ↦ k.owned a
               (subst (λ ls. A.Touched ls a) network h)
           | inr h ↦ absurd h
         ])
-        (λ key x r. let q = asked node e key x r in (q.0, among-more d.network t.out.letters (letter (TheWorker q.0) (TheNode n) (Ask key.attempt key.t)) q.1))
+        (λ key x r. let q = asked node e key x r in (q.0, among-more d.network t.out.envelopes (envelope (TheWorker q.0) (TheNode n) (Ask key.attempt key.t)) q.1))
 
 -- what a node answers after a message, it was asked
-reached_keys : (d : Whole) (n : ℕ) (node : Node) (from : Party) (m : Message) → node_at d n ≡ Some node → KeepsAsks d →
-    Among (letter from (TheNode n) m) d.network →
+reached_keys : (d : ClusterState) (n : ℕ) (node : Node) (from : Endpoint) (m : Message) → node_at d n ≡ Some node → KeepsAsks d →
+    Among (envelope from (TheNode n) m) d.network →
     (k : AskKey) (x : AskReply) → reply_to (sch (node_reached (there d n node) from m)) k ≡ Some x → A.Asked d.network k.attempt k.t n
 reached_keys d n node (TheNode i) m at keeps came k x e = keeps.nodes n node k x at e
 reached_keys d n node (TheWorker u) (Ask a i) at keeps came k x e =
@@ -145,27 +145,27 @@ reached_keys d n node (TheWorker u) (HoldAck i o) at keeps came k x e = keeps.no
 
 -- ---- each event
 
-as_before : (c : Whole) (jobs : List Given) (made : ℕ) (delivered : List Bool) → KeepsAsks c →
+as_before : (c : ClusterState) (jobs : List JobRecord) (made : ℕ) (delivered : List Bool) → KeepsAsks c →
     KeepsAsks (record c { jobs = jobs; made = made; delivered = delivered })
 as_before c jobs made delivered k = record { nodes = k.nodes; owners = k.owners; closed = k.closed; owned = k.owned }
 
-right_still : (c : Whole) (jobs : List Given) (made : ℕ) (delivered : List Bool) → NodesAreRight c →
+right_still : (c : ClusterState) (jobs : List JobRecord) (made : ℕ) (delivered : List Bool) → NodesAreRight c →
     NodesAreRight (record c { jobs = jobs; made = made; delivered = delivered })
 right_still c jobs made delivered r = record { each = r.each; senders = r.senders }
 
-letter_event : (c : Whole) (s to : Party) (m : Message) → Among (letter s to m) c.network → NodesAreRight c → KeepsLeases c → KeepsAsks c →
-    KeepsAsks (delivered_to c (letter s to m) to).whole
-letter_event c s (TheWorker w) m came right leases k =
+envelope_event : (c : ClusterState) (s to : Endpoint) (m : Message) → Among (envelope s to m) c.network → NodesAreRight c → KeepsLeases c → KeepsAsks c →
+    KeepsAsks (delivered_to c (envelope s to m) to).whole
+envelope_event c s (TheWorker w) m came right leases k =
     at_test (λ b. KeepsAsks (if b then worker_does c w (λ h. reached h s m) else moved c).whole) (is_live_worker (worker_at c w))
     (λ _. worker_event c w (λ h. reached h s m) (λ P kept h p. M.reached-kept P kept h s m p)
     (λ x at node home q. reached_asks c w x at node home k right leases s m came q) right k) (λ _. k)
-letter_event c s (TheNode n) m came right leases k =
+envelope_event c s (TheNode n) m came right leases k =
     at_test (λ b. KeepsAsks (if b then node_does c n (λ h. node_reached h s m) else moved c).whole) (is_live_node (node_at c n))
     (λ _. node_asks c c n (λ h. node_reached h s m) refl refl (λ Q kept t q. node_reached-kept Q kept t s m q) k.owners (λ v y e. (y, e))
     (λ node e key x r. reached_keys c n node s m e k came key x r) k k) (λ _. k)
 
 -- the same asks beside workers and nodes that changed otherwise
-changed_asks : (c : Whole) (workers : List Worker) (nodes : List Node) →
+changed_asks : (c : ClusterState) (workers : List Worker) (nodes : List Node) →
     ((v : ℕ) (y : Worker) → item_at workers v ≡ Some y → (x : Worker) × (worker_at c v ≡ Some x) × (y.objects ≡ x.objects)) →
     ((v : ℕ) (x : Worker) → worker_at c v ≡ Some x → (y : Worker) × (item_at workers v ≡ Some y)) →
     ((n : ℕ) (node : Node) (k : AskKey) (x : AskReply) → item_at nodes n ≡ Some node → reply_to node.scheduler k ≡ Some x →
@@ -173,7 +173,7 @@ changed_asks : (c : Whole) (workers : List Worker) (nodes : List Node) →
     ((n : ℕ) → IsDeadNode c n → IsDeadNode (record c { workers = workers; nodes = nodes }) n) → KeepsAsks c →
     KeepsAsks (record c { workers = workers; nodes = nodes })
 changed_asks c workers nodes back forth replies dead_too k =
-    let d : Whole = record c { workers = workers; nodes = nodes } in
+    let d : ClusterState = record c { workers = workers; nodes = nodes } in
     record {
       nodes = λ n node key x e r. let o = replies n node key x e r in k.nodes n o.0 key x o.1 o.2;
       owners = λ v y e.
@@ -189,7 +189,7 @@ changed_asks c workers nodes back forth replies dead_too k =
       owned = λ a e. let y = k.owned a e in forth _ y.0 y.1;
     }
 
-same_dead : (c : Whole) (n : ℕ) (f : Node → Node) → ((node : Node) → node.is_live ≡ false → (f node).is_live ≡ false) → (workers : List Worker) (m : ℕ) →
+same_dead : (c : ClusterState) (n : ℕ) (f : Node → Node) → ((node : Node) → node.is_live ≡ false → (f node).is_live ≡ false) → (workers : List Worker) (m : ℕ) →
     IsDeadNode c m →
     IsDeadNode (record c { workers = workers; nodes = changed_at c.nodes n f }) m
 same_dead c n f stays workers m (k, at, off) =
@@ -201,7 +201,7 @@ same_dead c n f stays workers m (k, at, off) =
         ap (λ (z : Node). z.is_live) is ∙ stays x (ap (λ (z : Node). z.is_live) (sym i) ∙ off)
     by_case y (inr e) = let h : ◌≡◌ {A = Option Node} (Some k) (Some y) = sym at ∙ e in let i : k ≡ y = cc in ap (λ (z : Node). z.is_live) (sym i) ∙ off
 
-same_replies : (c : Whole) (n : ℕ) (f : Node → Node) → ((node : Node) → (f node).scheduler ≡ node.scheduler) → (m : ℕ) (node : Node) (k : AskKey) (x : AskReply) →
+same_replies : (c : ClusterState) (n : ℕ) (f : Node → Node) → ((node : Node) → (f node).scheduler ≡ node.scheduler) → (m : ℕ) (node : Node) (k : AskKey) (x : AskReply) →
     item_at (changed_at c.nodes n f) m ≡ Some node → reply_to node.scheduler k ≡ Some x →
     (old : Node) × (node_at c m ≡ Some old) × (reply_to old.scheduler k ≡ Some x)
 same_replies c n f same m node k x e r = elim (changed_cases c.nodes n m f node e) [
@@ -214,22 +214,22 @@ dies_same : (x : Worker) (b : Bool) → (if b then dead x else x).objects ≡ x.
 dies_same x true = refl
 dies_same x false = refl
 
-dead_back : (c : Whole) (w v : ℕ) (y : Worker) → item_at (changed_at c.workers w dead) v ≡ Some y →
+dead_back : (c : ClusterState) (w v : ℕ) (y : Worker) → item_at (changed_at c.workers w dead) v ≡ Some y →
     (x : Worker) × (worker_at c v ≡ Some x) × (y.objects ≡ x.objects)
 dead_back c w v y e = elim (changed_cases c.workers w v dead y e) [
   | inl (_, x, at, is) ↦ (x, at, ap (λ (z : Worker). z.objects) is)
   | inr (_, at) ↦ (y, at, refl)
 ]
 
-same_nodes_replies : (c : Whole) (n : ℕ) (node : Node) (k : AskKey) (x : AskReply) → node_at c n ≡ Some node → reply_to node.scheduler k ≡ Some x →
+same_nodes_replies : (c : ClusterState) (n : ℕ) (node : Node) (k : AskKey) (x : AskReply) → node_at c n ≡ Some node → reply_to node.scheduler k ≡ Some x →
     (old : Node) × (node_at c n ≡ Some old) × (reply_to old.scheduler k ≡ Some x)
 same_nodes_replies c n node k x e r = (node, e, r)
 
-kill_event : (c : Whole) (w : ℕ) (o : Option Worker) → NodesAreRight c → KeepsAsks c → KeepsAsks (killed_by c w o).whole
+kill_event : (c : ClusterState) (w : ℕ) (o : Option Worker) → NodesAreRight c → KeepsAsks c → KeepsAsks (killed_by c w o).whole
 kill_event c w None right k = k
 kill_event c w (Some x) right k =
     let workers : List Worker = changed_at c.workers w dead in
-    let d : Whole = record c { workers = workers } in
+    let d : ClusterState = record c { workers = workers } in
     let forth : (v : ℕ) (y : Worker) → worker_at c v ≡ Some y → (z : Worker) × (item_at workers v ≡ Some z) = λ v y e. there_still c.workers w v dead y e in
     node_asks c d x.node (λ t. forgets t w) refl refl (λ Q kept t q. forgets-kept Q kept t w q)
     (λ v y e. let b = dead_back c w v y e in owns_same (IsDeadNode c) c.network v b.0 y (λ i. ap (λ ys. task_of (item_at ys i)) b.2) (k.owners v b.0 b.1)) forth
@@ -238,7 +238,7 @@ kill_event c w (Some x) right k =
     k.nodes x.node node key old.0 e old.1) k
     (changed_asks c workers c.nodes (dead_back c w) forth (same_nodes_replies c) (λ n q. q) k)
 
-join_event : (c : Whole) → KeepsAsks c → KeepsAsks (record c { nodes = c.nodes ++ new_node c.slots ∷ [] })
+join_event : (c : ClusterState) → KeepsAsks c → KeepsAsks (record c { nodes = c.nodes ++ new_node c.slots ∷ [] })
 join_event c k =
     changed_asks c c.workers (c.nodes ++ new_node c.slots ∷ []) (λ v y e. (y, e, refl)) (λ v y e. (y, e))
     (λ n node key x e r. elim (N.push_cases c.nodes n (new_node c.slots) node e) [
@@ -250,26 +250,26 @@ join_event c k =
     nothing_asked : (key : AskKey) (x : AskReply) → reply_to (new_node c.slots).scheduler key ≡ Some x → ⊥
     nothing_asked key x e = cc
 
-commit_event : (c : Whole) (j : ℕ) (handed : Handed) (g : Option Given) → NodesAreRight c → KeepsAsks c → KeepsAsks (committed_by c j handed g).whole
+commit_event : (c : ClusterState) (j : ℕ) (handed : CommitInput) (g : Option JobRecord) → NodesAreRight c → KeepsAsks c → KeepsAsks (committed_by c j handed g).whole
 commit_event c j Nothing g right k = k
 commit_event c j OfAnother g right k = k
 commit_event c j (OfJob o) None right k = k
 commit_event c j (OfJob o) (Some g) right k =
-    let d : Whole = with_committed c j (objects_made o.births) in
+    let d : ClusterState = with_committed c j (objects_made o.births) in
     worker_event d g.worker (λ h. commit_step h o) (λ P kept h p. M.commit_step-kept P kept h o p)
     (λ x at node home q. commit_asks d g.worker x at (here d g.worker x node) o q)
     (record { each = right.each; senders = right.senders }) (record { nodes = k.nodes; owners = k.owners; closed = k.closed; owned = k.owned })
 
-deliver_event : (c : Whole) (i : ℕ) (l : Option Letter) → item_at c.network i ≡ l → NodesAreRight c → KeepsLeases c → KeepsAsks c →
+deliver_event : (c : ClusterState) (i : ℕ) (l : Option Envelope) → item_at c.network i ≡ l → NodesAreRight c → KeepsLeases c → KeepsAsks c →
     KeepsAsks (delivered_by c i l).whole
 deliver_event c i None at right leases k = k
 deliver_event c i (Some x) at right leases k =
-    letter_event (with_delivered c i) x.sender x.receiver x.message (among_at c.network i x at) (record { each = right.each; senders = right.senders })
+    envelope_event (with_delivered c i) x.sender x.receiver x.message (among_at c.network i x at) (record { each = right.each; senders = right.senders })
     (record { workers = leases.workers; nodes = leases.nodes; homes = leases.homes })
     (record { nodes = k.nodes; owners = k.owners; closed = k.closed; owned = k.owned })
 
 -- what a notice of a node tells is true
-dead_by : (c : Whole) (n : ℕ) (o : Option Node) → node_at c n ≡ o → is_dead_node o ≡ true → IsDeadNode c n
+dead_by : (c : ClusterState) (n : ℕ) (o : Option Node) → node_at c n ≡ o → is_dead_node o ≡ true → IsDeadNode c n
 dead_by c n None e f = absurd (cc)
 dead_by c n (Some node) e f = (node, e, negated node.is_live f)
   where
@@ -277,10 +277,10 @@ dead_by c n (Some node) e f = (node, e, negated node.is_live f)
     negated true g = absurd (cc)
     negated false g = refl
 
-happens_asks : (c : Whole) (e : Event) (handed : Handed) → refusal c e handed ≡ None → NodesAreRight c → KeepsLeases c → KeepsAsks c →
+happens_asks : (c : ClusterState) (e : Event) (handed : CommitInput) → refusal c e handed ≡ None → NodesAreRight c → KeepsLeases c → KeepsAsks c →
     KeepsAsks (happens c e handed).whole
 happens_asks c (Claim w) handed e right leases k =
-    let d : Whole = record c { jobs = c.jobs ++ record { worker = w; is_committed = false } ∷ [] } in
+    let d : ClusterState = record c { jobs = c.jobs ++ record { worker = w; is_committed = false } ∷ [] } in
     worker_event d w (λ h. claim_step h (length c.jobs + 1)) (λ P kept h p. M.claim_step-kept P kept h (length c.jobs + 1) p)
     (λ x at node home q. claim_asks d w x at (here d w x node) (length c.jobs + 1) q)
     (record { each = right.each; senders = right.senders }) (record { nodes = k.nodes; owners = k.owners; closed = k.closed; owned = k.owned })
@@ -315,12 +315,12 @@ happens_asks c (KillNode n) handed e right leases k =
     (same_dead c n _ (λ _ _. refl) (map (dies_with n) c.workers)) k
 happens_asks c Join handed e right leases k = join_event c k
 
-limited_asks : (c : Whole) (m : Moved) (b : Bool) (given : Option Job) → KeepsAsks c → KeepsAsks m.whole →
+limited_asks : (c : ClusterState) (m : Transition) (b : Bool) (given : Option Job) → KeepsAsks c → KeepsAsks m.whole →
     KeepsAsks (whole_after c (if b then takes m given else Refuses Limit))
 limited_asks c m true given k l = l
 limited_asks c m false given k l = k
 
-decided_asks : (c : Whole) (e : Event) (handed : Handed) (code : Option Refusal) → refusal c e handed ≡ code → NodesAreRight c → KeepsLeases c → KeepsAsks c →
+decided_asks : (c : ClusterState) (e : Event) (handed : CommitInput) (code : Option Refusal) → refusal c e handed ≡ code → NodesAreRight c → KeepsLeases c → KeepsAsks c →
     KeepsAsks (whole_after c (decided c e handed code))
 decided_asks c e handed None unrefused right leases k =
     limited_asks c (happens c e handed) (is_within_limits (happens c e handed).whole) (given_out c e) k (happens_asks c e handed unrefused right leases k)

@@ -13,11 +13,11 @@ use Rattle.protocol_laws.specs.of_protocol.Sets.{repeated}
 use Rattle.protocol_laws.specs.of_protocol.Messages.{Push, TheWorker}
 use Rattle.protocol_laws.specs.of_protocol.Jobs.{Job}
 use Rattle.protocol_laws.specs.of_protocol.Tables.{new_worker}
-use Rattle.protocol_laws.specs.of_protocol.Steps.{Here}
+use Rattle.protocol_laws.specs.of_protocol.Steps.{WorkerContext}
 use Rattle.protocol_laws.specs.of_protocol.Runs.{begins_run, is_free, push_reached}
 use Rattle.protocol_laws.specs.of_protocol.Releases.{release_step}
 use Rattle.protocol_laws.specs.of_protocol.Deliveries.{reached}
-use Rattle.protocol_laws.specs.of_protocol.Whole.{Moved, Whole, after_worker, here, moved, worker_at, worker_does, worker_does_at, worker_does_by}
+use Rattle.protocol_laws.specs.of_protocol.Cluster.{Transition, ClusterState, after_worker, here, moved, worker_at, worker_does, worker_does_at, worker_does_by}
 use Rattle.protocol_laws.specs.of_protocol.Events.{delivered, delivered_by, is_live_worker, with_delivered}
 use Rattle.protocol_laws.specs.of_protocol.Answers.{Answer, Refuses, Step, Takes, decided, takes}
 use Rattle.protocol_laws.specs.of_protocol.Refusals.{is_within_limits, refusal, unless}
@@ -51,7 +51,7 @@ begun_kept a = record {
 }
 
 -- a worker that is free, or began the attempt, has begun it then
-push_begins : (h : Here) (a : Attempt) (spec : Birth) → (has_begun a h.worker.began ≡ false → is_free h.worker.run ≡ true) →
+push_begins : (h : WorkerContext) (a : Attempt) (spec : Birth) → (has_begun a h.worker.began ≡ false → is_free h.worker.run ≡ true) →
     has_begun a (push_reached h a spec).worker.began ≡ true
 push_begins h a spec fits = by_test (has_begun a h.worker.began) refl
   where
@@ -65,11 +65,11 @@ push_begins h a spec fits = by_test (has_begun a h.worker.began) refl
         subst (λ b. has_begun a (if b then begins_run h a spec else h).worker.began ≡ true) (sym test)
         (list_any-push_right (λ i. same_attempt i a) h.worker.began a (same_attempt-refl a))
 
-whole_of : Whole → Answer → Whole
+whole_of : ClusterState → Answer → ClusterState
 whole_of c (Takes s) = s.whole
 whole_of c (Refuses code) = c
 
-taken_whole : (m : Moved) (given : Option Job) (b : Bool) (step : Step) → (if b then takes m given else Refuses Limit) ≡ Takes step → m.whole ≡ step.whole
+taken_whole : (m : Transition) (given : Option Job) (b : Bool) (step : Step) → (if b then takes m given else Refuses Limit) ≡ Takes step → m.whole ≡ step.whole
 unfolding whole_of
 taken_whole m given true step e = ap (whole_of m.whole) e
 taken_whole m given false step e = absurd (cc)
@@ -77,10 +77,10 @@ taken_whole m given false step e = absurd (cc)
 pub pushes_begin : PushesBegin
 pushes_begin c keeps k w u a spec x handed step sent at live answered =
     let home = keeps.homes w x at in
-    let d : Whole = with_delivered c k in
-    let f : Here → Here = λ h. reached h (TheWorker u) (Push a spec) in
-    let start : Here = here d w x home.0 in
-    let g : Here = release_step (f start) in
+    let d : ClusterState = with_delivered c k in
+    let f : WorkerContext → WorkerContext = λ h. reached h (TheWorker u) (Push a spec) in
+    let start : WorkerContext = here d w x home.0 in
+    let g : WorkerContext = release_step (f start) in
     let unrefused : refusal c (Deliver k) handed ≡ None = ap (λ y. unless (is_some y) NoMessage) sent in
     let taken : (if is_within_limits (delivered c k).whole then takes (delivered c k) None else Refuses Limit) ≡ Takes step =
     ap (decided c (Deliver k) handed) (sym unrefused) ∙ answered in

@@ -10,16 +10,16 @@ use Rattle.event_log.specs.Entries.{Refusal, NotReady, NoJob, Stale, Limit}
 use Rattle.event_log.specs.Breaks.{Among}
 use Rattle.protocol_laws.specs.of_protocol.Numbered.{item_at, changed_at, changed_by}
 use Rattle.protocol_laws.specs.of_protocol.Sets.{repeated}
-use Rattle.protocol_laws.specs.of_protocol.Messages.{Letter, letter, Message, Party, TheWorker, TheNode, Ask, Give, Elsewhere, Wait, Back, Push, Finished, FinishedAck, Failed}
+use Rattle.protocol_laws.specs.of_protocol.Messages.{Envelope, envelope, Message, Endpoint, TheWorker, TheNode, Ask, Give, Elsewhere, Wait, Back, Push, Finished, FinishedAck, Failed}
 use Rattle.protocol_laws.specs.of_protocol.Messages.{Where, At, Gone, Fetch, CopyOf, Missing, Hold, HoldAck, Unhold}
-use Rattle.protocol_laws.specs.of_protocol.Jobs.{Given, Handed, Job, Nothing, OfAnother, OfJob}
-use Rattle.protocol_laws.specs.of_protocol.Nodes.{Node, Scheduler, There, new_node, new_scheduler}
+use Rattle.protocol_laws.specs.of_protocol.Jobs.{JobRecord, CommitInput, Job, Nothing, OfAnother, OfJob}
+use Rattle.protocol_laws.specs.of_protocol.Nodes.{Node, Scheduler, NodeContext, new_node, new_scheduler}
 use Rattle.protocol_laws.specs.of_protocol.Tables.{Out, Worker, has_stopped, new_worker}
-use Rattle.protocol_laws.specs.of_protocol.Steps.{Here}
+use Rattle.protocol_laws.specs.of_protocol.Steps.{WorkerContext}
 use Rattle.protocol_laws.specs.of_protocol.Slots.{forgets, node_reached}
 use Rattle.protocol_laws.specs.of_protocol.Releases.{release_step}
-use Rattle.protocol_laws.specs.of_protocol.Whole.{Whole, Moved, moved, node_at, worker_at, there, here, after_node, after_worker, node_does, node_does_by, worker_does}
-use Rattle.protocol_laws.specs.of_protocol.Whole.{worker_does_by, worker_does_at}
+use Rattle.protocol_laws.specs.of_protocol.Cluster.{ClusterState, Transition, moved, node_at, worker_at, there, here, after_node, after_worker, node_does, node_does_by, worker_does}
+use Rattle.protocol_laws.specs.of_protocol.Cluster.{worker_does_by, worker_does_at}
 use Rattle.protocol_laws.specs.of_protocol.Commits.{claim_step, commit_step}
 use Rattle.protocol_laws.specs.of_protocol.Notices.{notice_step, notice_node_step}
 use Rattle.protocol_laws.specs.of_protocol.Ticks.{tick_step}
@@ -30,7 +30,7 @@ use Rattle.protocol_laws.specs.of_protocol.Answers.{Refuses, answer, decided, ta
 use Rattle.protocol_laws.specs.of_protocol.Refusals.{commit_refusal, has_slot, is_of_job, is_out_by, is_ready, is_ready_on, is_ready_run, is_within_limits}
 use Rattle.protocol_laws.specs.of_protocol.Refusals.{no_worker, or_refusal, refusal, unless}
 use Rattle.protocol_laws.proofs.of_protocol_owed.Nodes.{changed_cases, push_cases, nothing_past, there_still, there_more}
-use Rattle.protocol_laws.proofs.of_protocol_owed.Letters.{among-append_cases, among-more}
+use Rattle.protocol_laws.proofs.of_protocol_owed.Envelopes.{among-append_cases, among-more}
 use Rattle.protocol_laws.proofs.of_protocol_owed.CourseEvents.{append_split, one_of}
 use Rattle.protocol_laws.proofs.of_protocol_owed.CourseAll.{both_passed, passed}
 use Rattle.protocol_laws.proofs.of_protocol_owed.CourseRuns.{OutOf, out_of}
@@ -60,14 +60,14 @@ item_last xs x =
     let f : ◌≡◌ {A = ℕ} (length xs + 1) (suc (length xs)) = omega arith in
     ap (item_at (xs ++ x ∷ [])) f ∙ slice_get-last xs x (length xs) refl
 
-pub among_at : (xs : List Letter) (k : ℕ) (l : Letter) → item_at xs k ≡ Some l → Among l xs
+pub among_at : (xs : List Envelope) (k : ℕ) (l : Envelope) → item_at xs k ≡ Some l → Among l xs
 among_at xs zero l e = absurd (cc)
 among_at xs (suc i) l e = (i, e)
 
 -- ---- the end of a node's event
 
 -- the leases of a node of which nobody changed, and that sent nothing
-other_node : (look next : Look) (s t : List Letter) (m : ℕ) (sch : Scheduler) → More s t →
+other_node : (look next : Look) (s t : List Envelope) (m : ℕ) (sch : Scheduler) → More s t →
     ((w : ℕ) (y : Worker) → next w ≡ Some y → y.node ≡ m → look w ≡ Some y) → ((w : ℕ) (x : Worker) → look w ≡ Some x → x.node ≡ m → next w ≡ Some x) →
     ((a : Attempt) (w : ℕ) → Gave t m a w → Gave s m a w) → ((a : Attempt) (w : ℕ) → Gave t m a w → IsOfNode next m w) →
     NodeKeeps look s m sch → NodeKeeps next t m sch
@@ -89,11 +89,11 @@ pub record IsBeside (n : ℕ) (old next : Look) : Type 0 where
   pub back : (w : ℕ) (y : Worker) → next w ≡ Some y → (y.node ≡ n) ⊎ (old w ≡ Some y)
   pub forth : (w : ℕ) (x : Worker) → old w ≡ Some x → (x.node ≡ n) ⊎ (next w ≡ Some x)
 
-module _ (d : Whole) (old : Look) (n : ℕ) (node : Node) (t : There) (stood : node_at d n ≡ Some node) (goes : Goes d.jobs d.workers d.network n t)
+module _ (d : ClusterState) (old : Look) (n : ℕ) (node : Node) (t : NodeContext) (stood : node_at d n ≡ Some node) (goes : Goes d.jobs d.workers d.network n t)
     (others : (m : ℕ) (other : Node) → node_at d m ≡ Some other → NodeKeeps old d.network m other.scheduler)
     (homes : (w : ℕ) (x : Worker) → old w ≡ Some x → (k : Node) × (node_at d x.node ≡ Some k))
     (beside : IsBeside n old (λ w. item_at (d.workers ++ repeated t.opened (new_worker n)) w)) where
-  abbrev after : Whole
+  abbrev after : ClusterState
   after = (after_node d n t).whole
 
   still_there : (m : ℕ) → (k : Node) × (node_at d m ≡ Some k) → (k : Node) × (node_at after m ≡ Some k)
@@ -105,11 +105,11 @@ module _ (d : Whole) (old : Look) (n : ℕ) (node : Node) (t : There) (stood : n
   elsewhere : (m : ℕ) (k : Node) → m ≢ n → node_at d m ≡ Some k → NodeKeeps (worker_at after) after.network m k.scheduler
   elsewhere m k apart at =
       other_node old (worker_at after) d.network after.network m k.scheduler
-      (λ l i. among-more d.network t.out.letters l i)
+      (λ l i. among-more d.network t.out.envelopes l i)
       (λ w y e home. elim (beside.back w y e) [ inl here ↦ absurd (not_this y.node m home here apart) | inr before ↦ before ])
       (λ w x e home. elim (beside.forth w x e) [ inl here ↦ absurd (not_this x.node m home here apart) | inr now ↦ now ])
-      (λ a w gave. elim (among-append_cases d.network t.out.letters _ gave.1) [ inl i ↦ (gave.0, i) | inr i ↦ absurd (apart (goes.alone _ m i refl)) ])
-      (λ a w gave. goes.workers.letters _ gave.1) (others m k at)
+      (λ a w gave. elim (among-append_cases d.network t.out.envelopes _ gave.1) [ inl i ↦ (gave.0, i) | inr i ↦ absurd (apart (goes.alone _ m i refl)) ])
+      (λ a w gave. goes.workers.envelopes _ gave.1) (others m k at)
 
   pub node_ends : KeepsLeases after
   node_ends = record {
@@ -129,7 +129,7 @@ module _ (d : Whole) (old : Look) (n : ℕ) (node : Node) (t : There) (stood : n
 -- ---- an event of a node
 
 -- nothing was made yet
-node_begins : (d : Whole) (n : ℕ) (node : Node) → node_at d n ≡ Some node → KeepsLeases d → Goes d.jobs d.workers d.network n (there d n node)
+node_begins : (d : ClusterState) (n : ℕ) (node : Node) → node_at d n ≡ Some node → KeepsLeases d → Goes d.jobs d.workers d.network n (there d n node)
 node_begins d n node at k = record {
   number = refl;
   counted = refl;
@@ -140,7 +140,7 @@ node_begins d n node at k = record {
   alone = λ l m h e. let f = h.1 in absurd (cc);
 }
 
-node_beside : (d : Whole) (n opened : ℕ) → IsBeside n (worker_at d) (λ w. item_at (d.workers ++ repeated opened (new_worker n)) w)
+node_beside : (d : ClusterState) (n opened : ℕ) → IsBeside n (worker_at d) (λ w. item_at (d.workers ++ repeated opened (new_worker n)) w)
 node_beside d n opened = record {
   back = λ w y e. elim (append_split d.workers (repeated opened (new_worker n)) w y e) [
     | inl f ↦ inr f
@@ -149,20 +149,20 @@ node_beside d n opened = record {
   forth = λ w x e. inr (there_more d.workers (repeated opened (new_worker n)) w x e);
 }
 
-node_event : (d : Whole) (n : ℕ) (f : There → There) →
-    ((node : Node) → node_at d n ≡ Some node → (t : There) → Goes d.jobs d.workers d.network n t → Goes d.jobs d.workers d.network n (f t)) →
+node_event : (d : ClusterState) (n : ℕ) (f : NodeContext → NodeContext) →
+    ((node : Node) → node_at d n ≡ Some node → (t : NodeContext) → Goes d.jobs d.workers d.network n t → Goes d.jobs d.workers d.network n (f t)) →
     KeepsLeases d → KeepsLeases (node_does d n f).whole
 node_event d n f goes k = by_node (node_at d n) refl
   where
     by_node : (o : Option Node) → node_at d n ≡ o → KeepsLeases (node_does_by d n f o).whole
     by_node None e = k
     by_node (Some node) e =
-        let t : There = there d n node in
+        let t : NodeContext = there d n node in
         node_ends d (worker_at d) n node (f t) e (goes node e t (node_begins d n node e k)) k.nodes k.homes (node_beside d n (f t).opened)
 
 -- ---- an event of a worker
 
-module _ (c : Whole) (me : ℕ) (x : Worker) (node : Node) (at : worker_at c me ≡ Some x) (home : node_at c x.node ≡ Some node) (k : KeepsLeases c) where
+module _ (c : ClusterState) (me : ℕ) (x : Worker) (node : Node) (at : worker_at c me ≡ Some x) (home : node_at c x.node ≡ Some node) (k : KeepsLeases c) where
   abbrev n : ℕ
   n = x.node
 
@@ -184,7 +184,7 @@ module _ (c : Whole) (me : ℕ) (x : Worker) (node : Node) (at : worker_at c me 
         };
       }
 
-  worker_beside : (h : Here) → Does c me n x at h →
+  worker_beside : (h : WorkerContext) → Does c me n x at h →
       IsBeside n (worker_at c) (λ w. item_at (changed_at c.workers me (λ _. h.worker) ++ repeated h.there.opened (new_worker n)) w)
   worker_beside h d = record {
     back = λ w y e. elim (append_split (changed_at c.workers me (λ _. h.worker)) (repeated h.there.opened (new_worker n)) w y e) [
@@ -204,23 +204,23 @@ module _ (c : Whole) (me : ℕ) (x : Worker) (node : Node) (at : worker_at c me 
     ];
   }
 
-  worker_ends : (h : Here) → Does c me n x at h → KeepsLeases (after_worker c me n h).whole
+  worker_ends : (h : WorkerContext) → Does c me n x at h → KeepsLeases (after_worker c me n h).whole
   worker_ends h d =
       node_ends (record c { workers = changed_at c.workers me (λ _. h.worker) }) (worker_at c) n node h.there home d.goes k.nodes k.homes (worker_beside h d)
 
-  pub worker_event_at : (f : Here → Here) → (Does c me n x at (here c me x node) → Does c me n x at (f (here c me x node))) →
+  pub worker_event_at : (f : WorkerContext → WorkerContext) → (Does c me n x at (here c me x node) → Does c me n x at (f (here c me x node))) →
       KeepsLeases (worker_does_at c me x f (Some node)).whole
   worker_event_at f step =
-      let g : Here = f (here c me x node) in
+      let g : WorkerContext = f (here c me x node) in
       worker_ends (release_step g)
       (release_step-kept (IsToldBy c me n x at) (IsOverOf c me n x at) (IsGivenBy c me n x at) AnyPassed (Does c me n x at) (does_kept c me n x at) g
       (step worker_begins))
 
 -- a step of whichever worker
-abbrev Steps : Whole → ℕ → (Here → Here) → Type 0
+abbrev Steps : ClusterState → ℕ → (WorkerContext → WorkerContext) → Type 0
 Steps c w f = (x : Worker) (at : worker_at c w ≡ Some x) (node : Node) → Does c w x.node x at (here c w x node) → Does c w x.node x at (f (here c w x node))
 
-worker_event : (c : Whole) (w : ℕ) (f : Here → Here) → Steps c w f → KeepsLeases c → KeepsLeases (worker_does c w f).whole
+worker_event : (c : ClusterState) (w : ℕ) (f : WorkerContext → WorkerContext) → Steps c w f → KeepsLeases c → KeepsLeases (worker_does c w f).whole
 worker_event c w f steps k = by_worker (worker_at c w) refl
   where
     by_node : (x : Worker) → worker_at c w ≡ Some x → (o : Option Node) → node_at c x.node ≡ o → KeepsLeases (worker_does_at c w x f o).whole
@@ -233,41 +233,41 @@ worker_event c w f steps k = by_worker (worker_at c w) refl
 
 -- ---- claims and commits
 
-with_jobs : (c : Whole) (jobs : List Given) (made : ℕ) → JobsStay c.jobs jobs → KeepsLeases c → KeepsLeases (record c { jobs = jobs; made = made })
+with_jobs : (c : ClusterState) (jobs : List JobRecord) (made : ℕ) → JobsStay c.jobs jobs → KeepsLeases c → KeepsLeases (record c { jobs = jobs; made = made })
 with_jobs c jobs made stay k =
     let w = k.workers in
     record {
-      workers = record { each = λ i x e. jobs_more c.jobs jobs c.network i x stay (w.each i x e); letters = w.letters };
+      workers = record { each = λ i x e. jobs_more c.jobs jobs c.network i x stay (w.each i x e); envelopes = w.envelopes };
       nodes = k.nodes;
       homes = k.homes;
     }
 
-pub ready_run : (c : Whole) (w : ℕ) (x : Worker) → worker_at c w ≡ Some x → is_ready c w ≡ true → is_ready_run x.run ≡ true
+pub ready_run : (c : ClusterState) (w : ℕ) (x : Worker) → worker_at c w ≡ Some x → is_ready c w ≡ true → is_ready_run x.run ≡ true
 ready_run c w x at e =
     let f : is_ready_on c w (Some x) ≡ true = ap (is_ready_on c w) (sym at) ∙ e in
     and_right x.is_live (is_ready_run x.run) (and_left (x.is_live && is_ready_run x.run) (has_slot w (node_at c x.node)) f)
 
-claim_event : (c : Whole) (w : ℕ) → or_refusal (no_worker c w) (unless (is_ready c w) NotReady) ≡ None → KeepsLeases c → KeepsLeases (claimed c w).whole
+claim_event : (c : ClusterState) (w : ℕ) → or_refusal (no_worker c w) (unless (is_ready c w) NotReady) ≡ None → KeepsLeases c → KeepsLeases (claimed c w).whole
 claim_event c w e k =
-    let g : Given = record { worker = w; is_committed = false } in
-    let jobs : List Given = c.jobs ++ g ∷ [] in
+    let g : JobRecord = record { worker = w; is_committed = false } in
+    let jobs : List JobRecord = c.jobs ++ g ∷ [] in
     let ready : is_ready c w ≡ true = passed (is_ready c w) NotReady (both_passed (no_worker c w) (unless (is_ready c w) NotReady) e).1 in
     worker_event (record c { jobs = jobs }) w (λ h. claim_step h (length c.jobs + 1))
     (λ x at node d. claim_does (record c { jobs = jobs }) w x.node x at (here (record c { jobs = jobs }) w x node) (length c.jobs + 1)
     (ready_run c w x at ready) (g, item_last c.jobs g, refl) d)
     (with_jobs c jobs c.made (λ j h i. (h, there_more c.jobs (g ∷ []) j h i, refl)) k)
 
-committed_stay : (jobs : List Given) (j : ℕ) → JobsStay jobs (changed_at jobs j as_committed)
+committed_stay : (jobs : List JobRecord) (j : ℕ) → JobsStay jobs (changed_at jobs j as_committed)
 committed_stay jobs j i g e =
     let f = there_still jobs j i as_committed g e in
     (f.0, f.1, worker_of (elim (changed_cases jobs j i as_committed f.0 f.1) [ inl (_, h, at, is) ↦ inl (h, at, is) | inr (_, at) ↦ inr at ]))
   where
-    worker_of : {h : Given} → ((y : Given) × (item_at jobs i ≡ Some y) × (h ≡ as_committed y)) ⊎ (item_at jobs i ≡ Some h) → h.worker ≡ g.worker
-    worker_of (inl (y, at, is)) = let f : ◌≡◌ {A = Option Given} (Some g) (Some y) = sym e ∙ at in let same : g ≡ y = cc in
-        ap (λ (z : Given). z.worker) is ∙ ap (λ (z : Given). z.worker) (sym same)
+    worker_of : {h : JobRecord} → ((y : JobRecord) × (item_at jobs i ≡ Some y) × (h ≡ as_committed y)) ⊎ (item_at jobs i ≡ Some h) → h.worker ≡ g.worker
+    worker_of (inl (y, at, is)) = let f : ◌≡◌ {A = Option JobRecord} (Some g) (Some y) = sym e ∙ at in let same : g ≡ y = cc in
+        ap (λ (z : JobRecord). z.worker) is ∙ ap (λ (z : JobRecord). z.worker) (sym same)
     worker_of (inr at) = let f = sym at ∙ e in cc
 
-commit_event : (c : Whole) (j : ℕ) (handed : Handed) (g : Option Given) → commit_refusal c j handed g ≡ None → KeepsLeases c →
+commit_event : (c : ClusterState) (j : ℕ) (handed : CommitInput) (g : Option JobRecord) → commit_refusal c j handed g ≡ None → KeepsLeases c →
     KeepsLeases (committed_by c j handed g).whole
 commit_event c j Nothing g e k = k
 commit_event c j OfAnother g e k = k
@@ -277,7 +277,7 @@ commit_event c j (OfJob o) (Some g) e k =
     let both = both_passed (unless (open_job && is_out_by (worker_at c g.worker) j) NoJob) (unless (is_live_worker (worker_at c g.worker)) Stale) e in
     let out : is_out_by (worker_at c g.worker) j ≡ true =
     and_right open_job (is_out_by (worker_at c g.worker) j) (passed (open_job && is_out_by (worker_at c g.worker) j) NoJob both.0) in
-    let d : Whole = with_committed c j (objects_made o.births) in
+    let d : ClusterState = with_committed c j (objects_made o.births) in
     worker_event d g.worker (λ h. commit_step h o)
     (λ x at node does.
     let run : OutOf x.run j = out_of x.run j (ap (λ y. is_out_by y j) (sym at) ∙ out) in
@@ -288,17 +288,17 @@ commit_event c j (OfJob o) (Some g) e k =
 
 -- ---- deliveries
 
-module _ (c : Whole) (w : ℕ) (x : Worker) (at : worker_at c w ≡ Some x) (node : Node) (live : x.is_live ≡ true) where
-  abbrev P : Here → Type 0
+module _ (c : ClusterState) (w : ℕ) (x : Worker) (at : worker_at c w ≡ Some x) (node : Node) (live : x.is_live ≡ true) where
+  abbrev P : WorkerContext → Type 0
   P = Does c w x.node x at
 
-  abbrev start : Here
+  abbrev start : WorkerContext
   start = here c w x node
 
-  abbrev Heard : Party → Message → Type 0
+  abbrev Heard : Endpoint → Message → Type 0
   Heard = IsHeardFrom (IsToldBy c w x.node x at) (IsOverOf c w x.node x at) (IsGivenBy c w x.node x at) AnyPassed P (does_kept c w x.node x at) start
 
-  heard_worker : (u : ℕ) (m : Message) → Among (letter (TheWorker u) (TheWorker w) m) c.network → P start → Heard (TheWorker u) m
+  heard_worker : (u : ℕ) (m : Message) → Among (envelope (TheWorker u) (TheWorker w) m) c.network → P start → Heard (TheWorker u) m
   heard_worker u (Push a spec) came d = push_does c w x.node x at start a spec live u came d
   heard_worker u (Finished a n rs) came d = record { to = TheWorker w; message = Finished a n rs; came = came; tells = λ look sent i. i }
   heard_worker u (Failed a f) came d = record { to = TheWorker w; message = Failed a f; came = came; tells = λ look sent i. i }
@@ -318,8 +318,8 @@ module _ (c : Whole) (w : ℕ) (x : Worker) (at : worker_at c w ≡ Some x) (nod
   heard_worker u (HoldAck e o) came d = tt
   heard_worker u (Unhold e o why) came d = tt
 
-  heard_node : (n : ℕ) (m : Message) → Among (letter (TheNode n) (TheWorker w) m) c.network → Heard (TheNode n) m
-  heard_node n (Give a t v) came = λ own. (t, subst (λ u. Among (letter (TheNode n) (TheWorker u) (Give a t v)) c.network) (sym own) came)
+  heard_node : (n : ℕ) (m : Message) → Among (envelope (TheNode n) (TheWorker w) m) c.network → Heard (TheNode n) m
+  heard_node n (Give a t v) came = λ own. (t, subst (λ u. Among (envelope (TheNode n) (TheWorker u) (Give a t v)) c.network) (sym own) came)
   heard_node n (Push a spec) came = tt
   heard_node n (Finished a m rs) came = tt
   heard_node n (Failed a f) came = tt
@@ -338,21 +338,21 @@ module _ (c : Whole) (w : ℕ) (x : Worker) (at : worker_at c w ≡ Some x) (nod
   heard_node n (HoldAck e o) came = tt
   heard_node n (Unhold e o why) came = tt
 
-  heard_from : (from : Party) (m : Message) → Among (letter from (TheWorker w) m) c.network → P start → Heard from m
+  heard_from : (from : Endpoint) (m : Message) → Among (envelope from (TheWorker w) m) c.network → P start → Heard from m
   heard_from (TheWorker u) m came d = heard_worker u m came d
   heard_from (TheNode n) m came d = heard_node n m came
 
-  reached_does : (from : Party) (m : Message) → Among (letter from (TheWorker w) m) c.network → P start → P (reached start from m)
+  reached_does : (from : Endpoint) (m : Message) → Among (envelope from (TheWorker w) m) c.network → P start → P (reached start from m)
   reached_does from m came d =
       reached-kept (IsToldBy c w x.node x at) (IsOverOf c w x.node x at) (IsGivenBy c w x.node x at) AnyPassed P (does_kept c w x.node x at) start from m
       (heard_from from m came d) d
 
-with_marks : (c : Whole) (k : ℕ) → KeepsLeases c → KeepsLeases (with_delivered c k)
+with_marks : (c : ClusterState) (k : ℕ) → KeepsLeases c → KeepsLeases (with_delivered c k)
 with_marks c k l = record { workers = l.workers; nodes = l.nodes; homes = l.homes }
 
-letter_event : (c : Whole) (s to : Party) (m : Message) → Among (letter s to m) c.network → KeepsLeases c →
-    KeepsLeases (delivered_to c (letter s to m) to).whole
-letter_event c s (TheWorker w) m came k =
+envelope_event : (c : ClusterState) (s to : Endpoint) (m : Message) → Among (envelope s to m) c.network → KeepsLeases c →
+    KeepsLeases (delivered_to c (envelope s to m) to).whole
+envelope_event c s (TheWorker w) m came k =
     at_test (λ b. is_live_worker (worker_at c w) ≡ b → KeepsLeases (if b then worker_does c w (λ h. reached h s m) else moved c).whole)
     (is_live_worker (worker_at c w))
     (λ _ e. worker_event c w (λ h. reached h s m)
@@ -360,15 +360,15 @@ letter_event c s (TheWorker w) m came k =
     let live : x.is_live ≡ true = ap is_live_worker (sym at) ∙ e in
     reached_does c w x at node live s m came d) k)
     (λ _ _. k) refl
-letter_event c s (TheNode n) m came k =
+envelope_event c s (TheNode n) m came k =
     at_test (λ b. KeepsLeases (if b then node_does c n (λ h. node_reached h s m) else moved c).whole) (is_live_node (node_at c n))
     (λ _. node_event c n (λ h. node_reached h s m) (λ node at t g. reached_goes c.jobs c.workers c.network n t s m
-    (g.workers.letters (letter s (TheNode n) m) (among-more c.network t.out.letters _ came)) g) k)
+    (g.workers.envelopes (envelope s (TheNode n) m) (among-more c.network t.out.envelopes _ came)) g) k)
     (λ _. k)
 
-deliver_event : (c : Whole) (k : ℕ) (l : Option Letter) → item_at c.network k ≡ l → KeepsLeases c → KeepsLeases (delivered_by c k l).whole
+deliver_event : (c : ClusterState) (k : ℕ) (l : Option Envelope) → item_at c.network k ≡ l → KeepsLeases c → KeepsLeases (delivered_by c k l).whole
 deliver_event c k None at l = l
-deliver_event c k (Some x) at l = letter_event (with_delivered c k) x.sender x.receiver x.message (among_at c.network k x at) (with_marks c k l)
+deliver_event c k (Some x) at l = envelope_event (with_delivered c k) x.sender x.receiver x.message (among_at c.network k x at) (with_marks c k l)
 
 -- ---- deaths
 
@@ -376,7 +376,7 @@ dies : (x : Worker) → Follows x (dead x)
 dies x = record { node = refl; live = λ e. absurd (cc); began = refl; going = λ r e over. (r, e, refl, over) }
 
 -- workers that follow the ones before, beside nodes with the same schedulers
-pub followed : (c : Whole) (workers : List Worker) (nodes : List Node) → AllFollow (worker_at c) (λ w. item_at workers w) →
+pub followed : (c : ClusterState) (workers : List Worker) (nodes : List Node) → AllFollow (worker_at c) (λ w. item_at workers w) →
     ((w : ℕ) (y : Worker) → item_at workers w ≡ Some y → WorkerKeeps c.jobs c.network w y) →
     ((n : ℕ) (node : Node) → item_at nodes n ≡ Some node → (old : Node) × (node_at c n ≡ Some old) × (node.scheduler ≡ old.scheduler)) →
     ((n : ℕ) (node : Node) → node_at c n ≡ Some node → (next : Node) × (item_at nodes n ≡ Some next)) → KeepsLeases c →
@@ -386,8 +386,8 @@ followed c workers nodes all each back forth k =
     record {
       workers = record {
         each = each;
-        letters = λ l i. true_more (worker_at c) look c.network c.network (follow_grows (worker_at c) look all) (λ _ j. j) l
-            (k.workers.letters l i);
+        envelopes = λ l i. true_more (worker_at c) look c.network c.network (follow_grows (worker_at c) look all) (λ _ j. j) l
+            (k.workers.envelopes l i);
       };
       nodes = λ n node e.
           let b = back n node e in
@@ -398,10 +398,10 @@ followed c workers nodes all each back forth k =
           subst (λ (m : ℕ). (node : Node) × (item_at nodes m ≡ Some node)) (sym b.2.node) (forth b.0.node h.0 h.1);
     }
 
-dead_keeps : (c : Whole) (w : ℕ) (x : Worker) → WorkerKeeps c.jobs c.network w x → WorkerKeeps c.jobs c.network w (dead x)
+dead_keeps : (c : ClusterState) (w : ℕ) (x : Worker) → WorkerKeeps c.jobs c.network w x → WorkerKeeps c.jobs c.network w (dead x)
 dead_keeps c w x k = record { began = k.began; present = k.present; stopped = k.stopped; out = k.out; runs = k.runs }
 
-killed_follow : (c : Whole) (w : ℕ) → AllFollow (worker_at c) (λ v. item_at (changed_at c.workers w dead) v)
+killed_follow : (c : ClusterState) (w : ℕ) → AllFollow (worker_at c) (λ v. item_at (changed_at c.workers w dead) v)
 killed_follow c w = record {
   back = λ v y e. elim (changed_cases c.workers w v dead y e) [
     | inl (_, x, at, is) ↦ (x, at, subst (Follows x) (sym is) (dies x))
@@ -418,11 +418,11 @@ killed_follow c w = record {
         subst (Follows x) (ap dead same ∙ sym is) (dies x)
     by_case v x e y (inr at) = let f : ◌≡◌ {A = Option Worker} (Some x) (Some y) = sym e ∙ at in let same : x ≡ y = cc in subst (Follows x) same (stays x)
 
-kill_event : (c : Whole) (w : ℕ) (o : Option Worker) → worker_at c w ≡ o → KeepsLeases c → KeepsLeases (killed_by c w o).whole
+kill_event : (c : ClusterState) (w : ℕ) (o : Option Worker) → worker_at c w ≡ o → KeepsLeases c → KeepsLeases (killed_by c w o).whole
 kill_event c w None at k = k
 kill_event c w (Some x) at k =
     let workers : List Worker = changed_at c.workers w dead in
-    let d : Whole = record c { workers = workers } in
+    let d : ClusterState = record c { workers = workers } in
     let dies_first : KeepsLeases d =
     followed c workers c.nodes (killed_follow c w)
     (λ v y e. elim (changed_cases c.workers w v dead y e) [
@@ -448,7 +448,7 @@ kill_event c w (Some x) at k =
           | inr (apart, _) ↦ absurd (apart refl)
         ]
 
-same_schedulers : (c : Whole) (n : ℕ) (f : Node → Node) → ((node : Node) → (f node).scheduler ≡ node.scheduler) →
+same_schedulers : (c : ClusterState) (n : ℕ) (f : Node → Node) → ((node : Node) → (f node).scheduler ≡ node.scheduler) →
     (m : ℕ) (node : Node) → item_at (changed_at c.nodes n f) m ≡ Some node → (old : Node) × (node_at c m ≡ Some old) × (node.scheduler ≡ old.scheduler)
 same_schedulers c n f same m node e = elim (changed_cases c.nodes n m f node e) [
   | inl (_, x, at, is) ↦ (x, at, ap (λ (y : Node). y.scheduler) is ∙ same x)
@@ -468,7 +468,7 @@ pub item_map : {X Y : Type 0} (f : X → Y) (xs : List X) (n : ℕ) (x : X) → 
 item_map f xs zero x e = absurd (cc)
 item_map f xs (suc i) x e = get_map f xs i x e
 
-kill_node_event : (c : Whole) (n : ℕ) (f : Node → Node) → ((node : Node) → (f node).scheduler ≡ node.scheduler) → KeepsLeases c →
+kill_node_event : (c : ClusterState) (n : ℕ) (f : Node → Node) → ((node : Node) → (f node).scheduler ≡ node.scheduler) → KeepsLeases c →
     KeepsLeases (record c { nodes = changed_at c.nodes n f; workers = map (dies_with n) c.workers })
 kill_node_event c n f same k =
     followed c (map (dies_with n) c.workers) (changed_at c.nodes n f)
@@ -483,7 +483,7 @@ kill_node_event c n f same k =
     (λ _. k.workers.each w r.0 r.1)))
     (λ m node e. same_schedulers c n f same m node e) (λ m node e. there_still c.nodes n m f node e) k
 
-store_event : (c : Whole) (n : ℕ) (f : Node → Node) → ((node : Node) → (f node).scheduler ≡ node.scheduler) → KeepsLeases c →
+store_event : (c : ClusterState) (n : ℕ) (f : Node → Node) → ((node : Node) → (f node).scheduler ≡ node.scheduler) → KeepsLeases c →
     KeepsLeases (record c { nodes = changed_at c.nodes n f })
 store_event c n f same k =
     followed c c.workers (changed_at c.nodes n f) (record { back = λ w y e. (y, e, stays y); forth = λ w x e. (x, e, stays x) }) k.workers.each
@@ -491,7 +491,7 @@ store_event c n f same k =
 
 -- ---- a node that comes
 
-join_event : (c : Whole) → KeepsLeases c → KeepsLeases (record c { nodes = c.nodes ++ new_node c.slots ∷ [] })
+join_event : (c : ClusterState) → KeepsLeases c → KeepsLeases (record c { nodes = c.nodes ++ new_node c.slots ∷ [] })
 join_event c k = record {
   workers = k.workers;
   nodes = λ n node e. elim (push_cases c.nodes n (new_node c.slots) node e) [
@@ -506,7 +506,7 @@ join_event c k = record {
     new_keeps n none = record {
       idle = λ w e. absurd (cc);
       promised = λ w x a at live gave unbegun.
-          let i : IsOfNode (worker_at c) n w = k.workers.letters _ gave.1 in
+          let i : IsOfNode (worker_at c) n w = k.workers.envelopes _ gave.1 in
           let h = k.homes w i.worker i.there in
           let f : node_at c n ≡ Some h.0 = ap (node_at c) (sym i.home) ∙ h.1 in
           absurd (cc);
@@ -516,7 +516,7 @@ join_event c k = record {
 
 -- ---- every event
 
-pub happens_keeps : (c : Whole) (e : Event) (handed : Handed) → refusal c e handed ≡ None → KeepsLeases c → KeepsLeases (happens c e handed).whole
+pub happens_keeps : (c : ClusterState) (e : Event) (handed : CommitInput) → refusal c e handed ≡ None → KeepsLeases c → KeepsLeases (happens c e handed).whole
 happens_keeps c (Claim w) handed e k = claim_event c w e k
 happens_keeps c (Commit j) handed e k = commit_event c j handed (item_at c.jobs j) e k
 happens_keeps c (Deliver i) handed e k = deliver_event c i (item_at c.network i) refl k
@@ -535,16 +535,16 @@ happens_keeps c (Kill w) handed e k = kill_event c w (worker_at c w) refl k
 happens_keeps c (KillNode n) handed e k = kill_node_event c n _ (λ _. refl) k
 happens_keeps c Join handed e k = join_event c k
 
-limited_keeps : (c : Whole) (m : Moved) (b : Bool) (given : Option Job) → KeepsLeases c → KeepsLeases m.whole →
+limited_keeps : (c : ClusterState) (m : Transition) (b : Bool) (given : Option Job) → KeepsLeases c → KeepsLeases m.whole →
     KeepsLeases (whole_after c (if b then takes m given else Refuses Limit))
 limited_keeps c m true given k l = l
 limited_keeps c m false given k l = k
 
-decided_keeps : (c : Whole) (e : Event) (handed : Handed) (code : Option Refusal) → refusal c e handed ≡ code → KeepsLeases c →
+decided_keeps : (c : ClusterState) (e : Event) (handed : CommitInput) (code : Option Refusal) → refusal c e handed ≡ code → KeepsLeases c →
     KeepsLeases (whole_after c (decided c e handed code))
 decided_keeps c e handed None unrefused k = limited_keeps c (happens c e handed) (is_within_limits (happens c e handed).whole) (given_out c e) k
     (happens_keeps c e handed unrefused k)
 decided_keeps c e handed (Some code) refused k = k
 
-pub events_keep : (c : Whole) (e : Event) (handed : Handed) → KeepsLeases c → KeepsLeases (whole_after c (answer c e handed))
+pub events_keep : (c : ClusterState) (e : Event) (handed : CommitInput) → KeepsLeases c → KeepsLeases (whole_after c (answer c e handed))
 events_keep c e handed k = decided_keeps c e handed (refusal c e handed) refl k

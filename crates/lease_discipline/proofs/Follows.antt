@@ -1,16 +1,16 @@
--- What was true of leases stays so as workers go on, letters are sent and workers are opened.
+-- What was true of leases stays so as workers go on, envelopes are sent and workers are opened.
 use Rattle.std.proofs.Common.{◌≡◌, ℕ, zero, suc, List, Some, None, Option, refl, ap, sym, ◌∙◌, ◌⊎◌, inl, inr}
 use Rattle.std.specs.Prelude.{true, false}
 use Rattle.std.proofs.lemmas.Bool.{both_ways, true_from_ne_false}
 use Rattle.event_log.specs.Entries.{Attempt}
 use Rattle.event_log.specs.Breaks.{Among}
-use Rattle.protocol_laws.specs.of_protocol.Messages.{Letter, Message, Party, TheWorker, TheNode, Ask, Give, Elsewhere, Wait, Back, Push, Finished, FinishedAck, Failed}
+use Rattle.protocol_laws.specs.of_protocol.Messages.{Envelope, Message, Endpoint, TheWorker, TheNode, Ask, Give, Elsewhere, Wait, Back, Push, Finished, FinishedAck, Failed}
 use Rattle.protocol_laws.specs.of_protocol.Messages.{Where, At, Gone, Fetch, CopyOf, Missing, Hold, HoldAck, Unhold}
 use Rattle.protocol_laws.specs.of_protocol.Numbered.{item_at}
-use Rattle.protocol_laws.specs.of_protocol.Jobs.{Given}
+use Rattle.protocol_laws.specs.of_protocol.Jobs.{JobRecord}
 use Rattle.protocol_laws.specs.of_protocol.Nodes.{Scheduler}
 use Rattle.protocol_laws.specs.of_protocol.Runs.{is_free}
-use Rattle.protocol_laws.specs.of_protocol.Tables.{OwnTask, Run, Worker, new_worker, task_of}
+use Rattle.protocol_laws.specs.of_protocol.Tables.{OwnTask, Execution, Worker, new_worker, task_of}
 use Rattle.protocol_laws.specs.of_protocol_owed.Courses.{has_begun}
 use Rattle.lease_discipline.specs.Discipline.{Look, Gave, IsDoneAt, NodeKeeps, IsOfNode, IsTrueBetween, IsTrue}
 use Rattle.lease_discipline.specs.Discipline.{SaysBack, SaysDone, SaysGiven, SaysPushed, IsBegunBy, WorkerKeeps}
@@ -18,14 +18,14 @@ use Rattle.lease_discipline.specs.Discipline.{SaysBack, SaysDone, SaysGiven, Say
 -- ---- runs
 
 -- a free worker has no attempt that isn't over
-pub never_busy : (x : Worker) (run : Run) → is_free x.run ≡ true → x.run ≡ Some run → run.is_over ≡ false → ⊥
+pub never_busy : (x : Worker) (run : Execution) → is_free x.run ≡ true → x.run ≡ Some run → run.is_over ≡ false → ⊥
 never_busy x run free e over = both_ways run.is_over over (sym (ap is_free e) ∙ free)
 
-free_by : (r : Option Run) → ((run : Run) → r ≡ Some run → run.is_over ≡ false → ⊥) → is_free r ≡ true
+free_by : (r : Option Execution) → ((run : Execution) → r ≡ Some run → run.is_over ≡ false → ⊥) → is_free r ≡ true
 free_by None f = refl
 free_by (Some run) f = true_from_ne_false run.is_over (f run refl)
 
-pub free_unless_busy : (x : Worker) → ((run : Run) → x.run ≡ Some run → run.is_over ≡ false → ⊥) → is_free x.run ≡ true
+pub free_unless_busy : (x : Worker) → ((run : Execution) → x.run ≡ Some run → run.is_over ≡ false → ⊥) → is_free x.run ≡ true
 free_unless_busy x f = free_by x.run f
 
 -- ---- a worker goes on
@@ -35,7 +35,7 @@ pub record Follows (x y : Worker) : Type 0 where
   pub node : y.node ≡ x.node
   pub live : y.is_live ≡ true → x.is_live ≡ true
   pub began : y.began ≡ x.began
-  pub going : (next : Run) → y.run ≡ Some next → next.is_over ≡ false → (run : Run) × (x.run ≡ Some run) × (run.attempt ≡ next.attempt) × (run.is_over ≡ false)
+  pub going : (next : Execution) → y.run ≡ Some next → next.is_over ≡ false → (run : Execution) × (x.run ≡ Some run) × (run.attempt ≡ next.attempt) × (run.is_over ≡ false)
 
 pub stays : (x : Worker) → Follows x x
 stays x = record { node = refl; live = λ e. e; began = refl; going = λ next e f. (next, e, refl, f) }
@@ -59,7 +59,7 @@ pub record Adds (look next : Look) : Type 0 where
   pub back : (w : ℕ) (y : Worker) → next w ≡ Some y → (look w ≡ Some y) ⊎ ((look w ≡ None) × ((m : ℕ) × (new_worker m ≡ y)))
   pub forth : (w : ℕ) (x : Worker) → look w ≡ Some x → next w ≡ Some x
 
--- what is asked of both by letters
+-- what is asked of both by envelopes
 abbrev pub Grows : Look → Look → Type 0
 Grows look next = (w : ℕ) (x : Worker) → look w ≡ Some x → (y : Worker) × (next w ≡ Some y) × (y.node ≡ x.node) × ((a : Attempt) → IsDoneAt a x → IsDoneAt a y)
 
@@ -72,24 +72,24 @@ follow_grows look next all w x e = let f = all.forth w x e in (f.0, f.1, f.2.nod
 pub adds_grows : (look next : Look) → Adds look next → Grows look next
 adds_grows look next adds w x e = (x, adds.forth w x e, refl, λ a d. d)
 
--- ---- letters
+-- ---- envelopes
 
-abbrev pub More : List Letter → List Letter → Type 0
-More sent next = (l : Letter) → Among l sent → Among l next
+abbrev pub More : List Envelope → List Envelope → Type 0
+More sent next = (l : Envelope) → Among l sent → Among l next
 
-pub gave_more : (s t : List Letter) (n : ℕ) (a : Attempt) (w : ℕ) → More s t → Gave s n a w → Gave t n a w
+pub gave_more : (s t : List Envelope) (n : ℕ) (a : Attempt) (w : ℕ) → More s t → Gave s n a w → Gave t n a w
 gave_more s t n a w more g = (g.0, more _ g.1)
 
-pub begun_more : (s t : List Letter) (w : ℕ) (a : Attempt) → More s t → IsBegunBy s w a → IsBegunBy t w a
+pub begun_more : (s t : List Envelope) (w : ℕ) (a : Attempt) → More s t → IsBegunBy s w a → IsBegunBy t w a
 begun_more s t w a more (inl e) = inl e
 begun_more s t w a more (inr p) = inr (p.0, p.1, more _ p.2)
 
-module _ (look next : Look) (s t : List Letter) (grows : Grows look next) (more : More s t) where
-  done_more : (from : Party) (a : Attempt) → SaysDone look from a → SaysDone next from a
+module _ (look next : Look) (s t : List Envelope) (grows : Grows look next) (more : More s t) where
+  done_more : (from : Endpoint) (a : Attempt) → SaysDone look from a → SaysDone next from a
   done_more (TheNode n) a d = tt
   done_more (TheWorker w) a d = let g = grows w d.worker d.there in record { worker = g.0; there = g.1; done = g.3 a d.done }
 
-  back_more : (from to : Party) (a : Attempt) → SaysBack look from to a → SaysBack next from to a
+  back_more : (from to : Endpoint) (a : Attempt) → SaysBack look from to a → SaysBack next from to a
   back_more (TheNode m) (TheNode n) a d = tt
   back_more (TheNode m) (TheWorker w) a d = tt
   back_more (TheWorker v) (TheWorker w) a d = tt
@@ -98,15 +98,15 @@ module _ (look next : Look) (s t : List Letter) (grows : Grows look next) (more 
       let g = grows w x.worker x.there in
       record { done = record { worker = g.0; there = g.1; done = g.3 a x.done }; home = g.2 ∙ d.home }
 
-  given_more : (from : Party) (w : ℕ) → SaysGiven look from w → SaysGiven next from w
+  given_more : (from : Endpoint) (w : ℕ) → SaysGiven look from w → SaysGiven next from w
   given_more (TheWorker v) w d = tt
   given_more (TheNode n) w d = let g = grows w d.worker d.there in record { worker = g.0; there = g.1; home = g.2 ∙ d.home }
 
-  pushed_more : (from to : Party) (a : Attempt) → SaysPushed s from to a → SaysPushed t from to a
+  pushed_more : (from to : Endpoint) (a : Attempt) → SaysPushed s from to a → SaysPushed t from to a
   pushed_more from (TheNode n) a d = tt
   pushed_more from (TheWorker w) a d = record { owner = d.owner; from_worker = d.from_worker; node = d.node; given = gave_more s t d.node a w more d.given }
 
-  between_more : (from to : Party) (m : Message) → IsTrueBetween look s from to m → IsTrueBetween next t from to m
+  between_more : (from to : Endpoint) (m : Message) → IsTrueBetween look s from to m → IsTrueBetween next t from to m
   between_more from to (Finished a n rs) d = done_more from a d
   between_more from to (Failed a f) d = done_more from a d
   between_more from to (Back a) d = back_more from to a d
@@ -126,10 +126,10 @@ module _ (look next : Look) (s t : List Letter) (grows : Grows look next) (more 
   between_more from to (HoldAck e o) d = tt
   between_more from to (Unhold e o why) d = tt
 
-  pub true_more : (l : Letter) → IsTrue look s l → IsTrue next t l
+  pub true_more : (l : Envelope) → IsTrue look s l → IsTrue next t l
   true_more l d = between_more l.sender l.receiver l.message d
 
-pub worker_more : (jobs : List Given) (s t : List Letter) (w : ℕ) (x : Worker) → More s t → WorkerKeeps jobs s w x → WorkerKeeps jobs t w x
+pub worker_more : (jobs : List JobRecord) (s t : List Envelope) (w : ℕ) (x : Worker) → More s t → WorkerKeeps jobs s w x → WorkerKeeps jobs t w x
 worker_more jobs s t w x more k = record {
   began = λ a e. begun_more s t w a more (k.began a e);
   present = k.present;
@@ -139,10 +139,10 @@ worker_more jobs s t w x more k = record {
 }
 
 -- jobs that were given stay given to whom they were
-abbrev pub JobsStay : List Given → List Given → Type 0
-JobsStay jobs next = (j : ℕ) (g : Given) → item_at jobs j ≡ Some g → (h : Given) × (item_at next j ≡ Some h) × (h.worker ≡ g.worker)
+abbrev pub JobsStay : List JobRecord → List JobRecord → Type 0
+JobsStay jobs next = (j : ℕ) (g : JobRecord) → item_at jobs j ≡ Some g → (h : JobRecord) × (item_at next j ≡ Some h) × (h.worker ≡ g.worker)
 
-pub jobs_more : (jobs next : List Given) (s : List Letter) (w : ℕ) (x : Worker) → JobsStay jobs next → WorkerKeeps jobs s w x → WorkerKeeps next s w x
+pub jobs_more : (jobs next : List JobRecord) (s : List Envelope) (w : ℕ) (x : Worker) → JobsStay jobs next → WorkerKeeps jobs s w x → WorkerKeeps next s w x
 jobs_more jobs next s w x stay k = record {
   began = k.began;
   present = k.present;
@@ -151,7 +151,7 @@ jobs_more jobs next s w x stay k = record {
   runs = k.runs;
 }
 
-pub new_keeps : (jobs : List Given) (s : List Letter) (w m : ℕ) → WorkerKeeps jobs s w (new_worker m)
+pub new_keeps : (jobs : List JobRecord) (s : List Envelope) (w m : ℕ) → WorkerKeeps jobs s w (new_worker m)
 new_keeps jobs s w m = record {
   began = λ a e. absurd (cc);
   present = λ run e. absurd (cc);
@@ -166,7 +166,7 @@ new_keeps jobs s w m = record {
 
 -- ---- a node's clauses
 
-pub node_follows : (look next : Look) (s : List Letter) (n : ℕ) (sch : Scheduler) → AllFollow look next → NodeKeeps look s n sch → NodeKeeps next s n sch
+pub node_follows : (look next : Look) (s : List Envelope) (n : ℕ) (sch : Scheduler) → AllFollow look next → NodeKeeps look s n sch → NodeKeeps next s n sch
 node_follows look next s n sch all k = record {
   idle = λ w e.
       let i = k.idle w e in
@@ -184,9 +184,9 @@ node_follows look next s n sch all k = record {
 }
 
 -- no Give of the node is new
-pub node_letters : (look : Look) (s t : List Letter) (n : ℕ) (sch : Scheduler) → More s t → ((a : Attempt) (w : ℕ) → Gave t n a w → Gave s n a w) →
+pub node_envelopes : (look : Look) (s t : List Envelope) (n : ℕ) (sch : Scheduler) → More s t → ((a : Attempt) (w : ℕ) → Gave t n a w → Gave s n a w) →
     NodeKeeps look s n sch → NodeKeeps look t n sch
-node_letters look s t n sch more old k = record {
+node_envelopes look s t n sch more old k = record {
   idle = k.idle;
   promised = λ w x a at live given unbegun. k.promised w x a at live (old a w given) unbegun;
   busy = k.busy;
@@ -194,7 +194,7 @@ node_letters look s t n sch more old k = record {
 }
 
 -- whoever was opened was never given before
-pub node_adds : (look next : Look) (s : List Letter) (n : ℕ) (sch : Scheduler) → Adds look next → ((a : Attempt) (w : ℕ) → Gave s n a w → IsOfNode look n w) →
+pub node_adds : (look next : Look) (s : List Envelope) (n : ℕ) (sch : Scheduler) → Adds look next → ((a : Attempt) (w : ℕ) → Gave s n a w → IsOfNode look n w) →
     NodeKeeps look s n sch → NodeKeeps next s n sch
 node_adds look next s n sch adds given_there k = record {
   idle = λ w e.
@@ -206,7 +206,7 @@ node_adds look next s n sch adds given_there k = record {
   ];
   busy = λ w y run at home e over. elim (adds.back w y at) [
     | inl old ↦ k.busy w y run old home e over
-    | inr (none, new) ↦ let is = new.1 in let f : ◌≡◌ {A = Option Run} None (Some run) = ap (λ (x : Worker). x.run) is ∙ e in absurd (cc)
+    | inr (none, new) ↦ let is = new.1 in let f : ◌≡◌ {A = Option Execution} None (Some run) = ap (λ (x : Worker). x.run) is ∙ e in absurd (cc)
   ];
   replied = k.replied;
 }

@@ -12,18 +12,18 @@ use Rattle.protocol_laws.specs.of_numbered.Counting.{item_of, changed}
 use Rattle.protocol_laws.proofs.of_numbered.Places.{changed_is, item_is}
 use Rattle.protocol_laws.proofs.of_numbered.Lists.{changed-length}
 use Rattle.protocol_laws.specs.of_protocol.Sets.{object_id, repeated}
-use Rattle.protocol_laws.specs.of_protocol.Messages.{Letter, letter, Message, Party, TheWorker, TheNode, Ask, Give, Elsewhere, Wait, Back, Push, Finished, FinishedAck, Failed}
+use Rattle.protocol_laws.specs.of_protocol.Messages.{Envelope, envelope, Message, Endpoint, TheWorker, TheNode, Ask, Give, Elsewhere, Wait, Back, Push, Finished, FinishedAck, Failed}
 use Rattle.protocol_laws.specs.of_protocol.Messages.{Where, At, Gone, Fetch, CopyOf, Missing, Hold, HoldAck, Unhold}
-use Rattle.protocol_laws.specs.of_protocol.Tables.{Fetching, HasEnded, HasFaulted, Object, Out, OwnTask, Phase, Ready, Run, RunsOn, Waits, Worker, has_stopped, new_worker}
+use Rattle.protocol_laws.specs.of_protocol.Tables.{Fetching, HasEnded, HasFaulted, Object, Out, OwnTask, Phase, Ready, Execution, RunsOn, Waits, Worker, has_stopped, new_worker}
 use Rattle.protocol_laws.specs.of_protocol.Tables.{owner_of, task_in, task_of, with_task}
-use Rattle.protocol_laws.specs.of_protocol.Steps.{Here, logs, logs_all, own_id, says, with_run, with_task_of, with_there, with_worker}
+use Rattle.protocol_laws.specs.of_protocol.Steps.{WorkerContext, logs, logs_all, own_id, says, with_run, with_task_of, with_there, with_worker}
 use Rattle.protocol_laws.specs.of_protocol.Runs.{asks_for_slot, gives_slot_back, with_answer}
 use Rattle.protocol_laws.specs.of_protocol.Asking.{with_begun}
 use Rattle.protocol_laws.specs.of_protocol.Nodes.{posts}
-use Rattle.protocol_laws.specs.of_protocol.Whole.{Whole}
+use Rattle.protocol_laws.specs.of_protocol.Cluster.{ClusterState}
 use Rattle.protocol_laws.specs.of_protocol_owed.Courses.{HasStopped, has_begun}
 use Rattle.protocol_laws.proofs.of_protocol_owed.Nodes.{changed_cases, there_still, there_more}
-use Rattle.protocol_laws.proofs.of_protocol_owed.Letters.{among-more}
+use Rattle.protocol_laws.proofs.of_protocol_owed.Envelopes.{among-more}
 use Rattle.protocol_laws.specs.of_protocol_owed.Told.{pace_in}
 use Rattle.protocol_laws.proofs.of_protocol_owed.TellingMore.{stopped_pace}
 use Rattle.protocol_laws.proofs.of_smallest_steps.Smallest.{AnyPassed}
@@ -83,7 +83,7 @@ out_pace (Waits y f) j e = absurd (cc)
 out_pace (HasEnded c) j e = absurd (cc)
 out_pace (HasFaulted f) j e = absurd (cc)
 
-plain_true : (look : Look) (sent : List Letter) (from to : Party) (m : Message) → is_plain m ≡ true → IsTrueBetween look sent from to m
+plain_true : (look : Look) (sent : List Envelope) (from to : Endpoint) (m : Message) → is_plain m ≡ true → IsTrueBetween look sent from to m
 plain_true look sent from to (Give a t w) e = absurd (cc)
 plain_true look sent from to (Push a spec) e = absurd (cc)
 plain_true look sent from to (Finished a n rs) e = absurd (cc)
@@ -105,7 +105,7 @@ plain_true look sent from to (Unhold e o why) f = tt
 
 -- ---- the event of worker me of node n
 
-module _ (c : Whole) (me n : ℕ) (old : Worker) (there : item_at c.workers me ≡ Some old) where
+module _ (c : ClusterState) (me n : ℕ) (old : Worker) (there : item_at c.workers me ≡ Some old) where
   -- the workers, where this one is x
   abbrev pub workers_with : Worker → List Worker
   workers_with x = changed_at c.workers me (λ _. x)
@@ -113,13 +113,13 @@ module _ (c : Whole) (me n : ℕ) (old : Worker) (there : item_at c.workers me �
   abbrev pub look_with : Worker → ℕ → Look
   look_with x opened = λ w. item_at (workers_with x ++ repeated opened (new_worker n)) w
 
-  abbrev pub look_here : Here → Look
+  abbrev pub look_here : WorkerContext → Look
   look_here h = look_in c.jobs (workers_with h.worker) c.network n h.there
 
-  abbrev pub sent_here : Here → List Letter
-  sent_here h = c.network ++ h.there.out.letters
+  abbrev pub sent_here : WorkerContext → List Envelope
+  sent_here h = c.network ++ h.there.out.envelopes
 
-  pub record Does (h : Here) : Type 0 where
+  pub record Does (h : WorkerContext) : Type 0 where
     pub who : h.me ≡ me
     pub home : h.worker.node ≡ n
     pub goes : Goes c.jobs (workers_with h.worker) c.network n h.there
@@ -149,11 +149,11 @@ module _ (c : Whole) (me n : ℕ) (old : Worker) (there : item_at c.workers me �
   }
 
   -- what is known of the worker itself
-  pub mine : (h : Here) → Does h → WorkerKeeps c.jobs (sent_here h) me h.worker
+  pub mine : (h : WorkerContext) → Does h → WorkerKeeps c.jobs (sent_here h) me h.worker
   mine h d = d.goes.workers.each me h.worker (at_me h.worker h.there.opened)
 
   -- the worker goes on
-  pub worker_does : (h : Here) (y : Worker) → Follows h.worker y → WorkerKeeps c.jobs (sent_here h) me y → Does h → Does (with_worker h y)
+  pub worker_does : (h : WorkerContext) (y : Worker) → Follows h.worker y → WorkerKeeps c.jobs (sent_here h) me y → Does h → Does (with_worker h y)
   worker_does h y f k d =
       let x : Worker = h.worker in
       let opened : ℕ = h.there.opened in
@@ -173,8 +173,8 @@ module _ (c : Whole) (me n : ℕ) (old : Worker) (there : item_at c.workers me �
                   subst (λ u. WorkerKeeps c.jobs (sent_here h) u z) (sym same) (subst (WorkerKeeps c.jobs (sent_here h) me) is k)
               | inr apart ↦ g.workers.each w z (sym (at_other x y opened w apart) ∙ e)
             ];
-            letters = λ l i. true_more (look_with x opened) (look_with y opened) (sent_here h) (sent_here h)
-                (follow_grows (look_with x opened) (look_with y opened) all) (λ _ j. j) l (g.workers.letters l i);
+            envelopes = λ l i. true_more (look_with x opened) (look_with y opened) (sent_here h) (sent_here h)
+                (follow_grows (look_with x opened) (look_with y opened) all) (λ _ j. j) l (g.workers.envelopes l i);
           };
           there = node_follows (look_with x opened) (look_with y opened) (sent_here h) n h.there.node.scheduler all g.there;
           alone = g.alone;
@@ -182,7 +182,7 @@ module _ (c : Whole) (me n : ℕ) (old : Worker) (there : item_at c.workers me �
       }
 
   -- its attempt goes on
-  pub run_does : (h : Here) (run next : Run) → h.worker.run ≡ Some run → next.attempt ≡ run.attempt → (run.is_over ≡ true → next.is_over ≡ true) →
+  pub run_does : (h : WorkerContext) (run next : Execution) → h.worker.run ≡ Some run → next.attempt ≡ run.attempt → (run.is_over ≡ true → next.is_over ≡ true) →
       (next.is_over ≡ true → has_stopped next.phase ≡ true) → ((j : ℕ) → next.phase ≡ Out j → IsJobOf c.jobs me j) → Does h → Does (with_run h next)
   run_does h run next e same later stopped out d =
       let k = mine h d in
@@ -195,37 +195,37 @@ module _ (c : Whole) (me n : ℕ) (old : Worker) (there : item_at c.workers me �
             let is : next ≡ r = cc in (
               run,
               e,
-              sym same ∙ ap (λ (q : Run). q.attempt) is,
+              sym same ∙ ap (λ (q : Execution). q.attempt) is,
               false_from_ne_true run.is_over
-                  (λ g. both_ways r.is_over over (ap (λ (q : Run). q.is_over) (sym is) ∙ later g)),
+                  (λ g. both_ways r.is_over over (ap (λ (q : Execution). q.is_over) (sym is) ∙ later g)),
             );
       })
       (record {
         began = k.began;
-        present = λ r i. let is : next ≡ r = cc in ap (λ (q : Run). has_begun q.attempt h.worker.began) (sym is) ∙
+        present = λ r i. let is : next ≡ r = cc in ap (λ (q : Execution). has_begun q.attempt h.worker.began) (sym is) ∙
             ap (λ a. has_begun a h.worker.began) same ∙ k.present run e;
-        stopped = λ r i o. let is : next ≡ r = cc in subst (λ (q : Run). has_stopped q.phase ≡ true) is (stopped (ap (λ (q : Run). q.is_over) is ∙ o));
-        out = λ r j i o. let is : next ≡ r = cc in out j (ap (λ (q : Run). q.phase) is ∙ o);
+        stopped = λ r i o. let is : next ≡ r = cc in subst (λ (q : Execution). has_stopped q.phase ≡ true) is (stopped (ap (λ (q : Execution). q.is_over) is ∙ o));
+        out = λ r j i o. let is : next ≡ r = cc in out j (ap (λ (q : Execution). q.phase) is ∙ o);
         runs = k.runs;
       }) d
 
-  pub logs_does : (h : Here) (es : List Entry) → Does h → Does (logs_all h es)
+  pub logs_does : (h : WorkerContext) (es : List Entry) → Does h → Does (logs_all h es)
   logs_does h es d = record { who = d.who; home = d.home; goes = logs_goes c.jobs (workers_with h.worker) c.network n h.there es d.goes }
 
-  -- a true letter is sent
-  says_does : (h : Here) (to : Party) (m : Message) → IsTrue (look_here h) (sent_here h) (letter (TheWorker h.me) to m) → Does h →
-      Does (with_there h (posts h.there (letter (TheWorker h.me) to m)))
+  -- a true envelope is sent
+  says_does : (h : WorkerContext) (to : Endpoint) (m : Message) → IsTrue (look_here h) (sent_here h) (envelope (TheWorker h.me) to m) → Does h →
+      Does (with_there h (posts h.there (envelope (TheWorker h.me) to m)))
   says_does h to m is d = record { who = d.who; home = d.home; goes = worker_says_goes c.jobs (workers_with h.worker) c.network n h.there h.me to m is d.goes }
 
   -- a worker whose attempt isn't over isn't wanted for another
-  pub busy_unwanted : (h : Here) (run : Run) → h.worker.run ≡ Some run → run.is_over ≡ false → Does h → IsUnwanted (look_here h) (sent_here h) n me
+  pub busy_unwanted : (h : WorkerContext) (run : Execution) → h.worker.run ≡ Some run → run.is_over ≡ false → Does h → IsUnwanted (look_here h) (sent_here h) n me
   busy_unwanted h run e over d a wanted =
       let i : ◌≡◌ {A = Option Worker} (Some h.worker) (Some wanted.worker) = sym (at_me h.worker h.there.opened) ∙ wanted.there in
       let is : h.worker ≡ wanted.worker = cc in
       let p = d.goes.there.promised me wanted.worker a wanted.there wanted.lives wanted.given wanted.unbegun in
       never_busy wanted.worker run p.free (ap (λ (x : Worker). x.run) (sym is) ∙ e) over
 
-  pub frees_does : (h : Here) → IsUnwanted (look_here h) (sent_here h) n me → Does h → Does (gives_slot_back h)
+  pub frees_does : (h : WorkerContext) → IsUnwanted (look_here h) (sent_here h) n me → Does h → Does (gives_slot_back h)
   frees_does h unwanted d = record {
     who = d.who;
     home = d.home;
@@ -233,48 +233,48 @@ module _ (c : Whole) (me n : ℕ) (old : Worker) (there : item_at c.workers me �
         (subst (λ w. IsUnwanted (look_here h) (sent_here h) n w) (sym d.who) unwanted) d.goes;
   }
 
-  asks_does : (h : Here) → Does h → Does (asks_for_slot h)
+  asks_does : (h : WorkerContext) → Does h → Does (asks_for_slot h)
   asks_does h d = record { who = d.who; home = d.home; goes = asks_slot_goes c.jobs (workers_with h.worker) c.network n h.there h.me d.goes }
 
   -- an attempt that waits isn't over
-  pub waits_on : (h : Here) (run : Run) (y : Id) (f : Option Fetching) → h.worker.run ≡ Some run → run.phase ≡ Waits y f → Does h → run.is_over ≡ false
+  pub waits_on : (h : WorkerContext) (run : Execution) (y : Id) (f : Option Fetching) → h.worker.run ≡ Some run → run.phase ≡ Waits y f → Does h → run.is_over ≡ false
   waits_on h run y f e q d = false_from_ne_true run.is_over (λ o. let s = (mine h d).stopped run e o in
       let g : has_stopped (Waits y f) ≡ true = ap has_stopped (sym q) ∙ s in absurd (cc))
 
   -- ---- what is known of messages that come
 
   pub record IsToldBy (w : ℕ) (a : Attempt) : Type 0 where
-    pub to : Party
+    pub to : Endpoint
     pub message : Message
-    pub came : Among (letter (TheWorker w) to message) c.network
-    pub tells : (look : Look) (sent : List Letter) → IsTrueBetween look sent (TheWorker w) to message → IsDone look w a
+    pub came : Among (envelope (TheWorker w) to message) c.network
+    pub tells : (look : Look) (sent : List Envelope) → IsTrueBetween look sent (TheWorker w) to message → IsDone look w a
 
   pub record IsOverOf (a : Attempt) : Type 0 where
-    pub from : Party
-    pub came : Among (letter from (TheWorker me) (FinishedAck a)) c.network
+    pub from : Endpoint
+    pub came : Among (envelope from (TheWorker me) (FinishedAck a)) c.network
 
   abbrev pub IsGivenBy : ℕ → ℕ → Attempt → ℕ → Type 0
   IsGivenBy m t a w = Gave c.network m a w
 
-  pub was_sent : (h : Here) → More c.network (sent_here h)
-  was_sent h l i = among-more c.network h.there.out.letters l i
+  pub was_sent : (h : WorkerContext) → More c.network (sent_here h)
+  was_sent h l i = among-more c.network h.there.out.envelopes l i
 
-  done_here : (h : Here) (run : Run) → h.worker.run ≡ Some run → run.is_over ≡ true → Does h → IsDone (look_here h) me run.attempt
+  done_here : (h : WorkerContext) (run : Execution) → h.worker.run ≡ Some run → run.is_over ≡ true → Does h → IsDone (look_here h) me run.attempt
   done_here h run e o d = record {
     worker = h.worker;
     there = at_me h.worker h.there.opened;
     done = record {
       listed = (mine h d).present run e;
-      over = λ r i _. let g : ◌≡◌ {A = Option Run} (Some run) (Some r) = sym e ∙ i in
-          let is : run ≡ r = cc in ap (λ (q : Run). q.is_over) (sym is) ∙ o;
+      over = λ r i _. let g : ◌≡◌ {A = Option Execution} (Some run) (Some r) = sym e ∙ i in
+          let is : run ≡ r = cc in ap (λ (q : Execution). q.is_over) (sym is) ∙ o;
     };
   }
 
-  by_me : (h : Here) (a : Attempt) → Does h → IsDone (look_here h) me a → IsDone (look_here h) h.me a
+  by_me : (h : WorkerContext) (a : Attempt) → Does h → IsDone (look_here h) me a → IsDone (look_here h) h.me a
   by_me h a d i = subst (λ w. IsDone (look_here h) w a) (sym d.who) i
 
   -- an attempt of an own task begins on the worker that was given
-  begins_does : (h : Here) (o : Id) (task : OwnTask) (w m : ℕ) → o.owner ≡ h.me → Gave c.network m (attempt o task.number) w → Does h →
+  begins_does : (h : WorkerContext) (o : Id) (task : OwnTask) (w m : ℕ) → o.owner ≡ h.me → Gave c.network m (attempt o task.number) w → Does h →
       Does (with_task_of h o (with_begun task w m))
   begins_does h o task w m own given d =
       let k = mine h d in
@@ -310,11 +310,11 @@ module _ (c : Whole) (me n : ℕ) (old : Worker) (there : item_at c.workers me �
           Gave (sent_here h) q (attempt (object_id me i) t.number) v
       by_item i t v q p None at e = absurd (cc)
       by_item i t v q p (Some z) at e = elim (changed_cases h.worker.objects o.serial i (with_task (with_begun task w m)) z at) [
-        | inl (same, y, _, is) ↦ new_task_runs i t v q same (ap (λ (u : Object). task_in u.maker) (sym is) ∙ e) p
+        | inl (same, y, _, is) ↦ new_task_runs i t v q same (ap (λ (u : Object). task_in u.source) (sym is) ∙ e) p
         | inr (_, before) ↦ (mine h d).runs i t v q (ap task_of before ∙ e) p
       ]
 
-  tame_does : (h : Here) (x : Worker) → IsTame h.worker x → Does h → Does (with_worker h x)
+  tame_does : (h : WorkerContext) (x : Worker) → IsTame h.worker x → Does h → Does (with_worker h x)
   tame_does h x t d =
       let k = mine h d in
       worker_does h x
@@ -330,11 +330,11 @@ module _ (c : Whole) (me n : ℕ) (old : Worker) (there : item_at c.workers me �
       }) d
 
   -- a Push of what was given
-  pushes_does : (h : Here) (a : Attempt) (spec : Birth) (w m : ℕ) → Gave (sent_here h) m a w → Does h → Does (says h w (Push a spec))
+  pushes_does : (h : WorkerContext) (a : Attempt) (spec : Birth) (w m : ℕ) → Gave (sent_here h) m a w → Does h → Does (says h w (Push a spec))
   pushes_does h a spec w m given d = says_does h (TheWorker w) (Push a spec) (record { owner = h.me; from_worker = refl; node = m; given = given }) d
 
   -- an own attempt is asked for
-  asked_does : (h : Here) (o : Id) (task : OwnTask) (t m : ℕ) → Does h → Does (asks_at h o task t m)
+  asked_does : (h : WorkerContext) (o : Id) (task : OwnTask) (t m : ℕ) → Does h → Does (asks_at h o task t m)
   asked_does h o task t m d =
       let next : OwnTask = record task { progress = AskedAt t m } in
       says_does (with_task_of h o next) (TheNode m) (Ask (attempt o task.number) t) tt
@@ -349,7 +349,7 @@ module _ (c : Whole) (me n : ℕ) (old : Worker) (there : item_at c.workers me �
     store = λ h s d. record { who = d.who; home = d.home; goes = store_goes c.jobs (workers_with h.worker) c.network n h.there s d.goes };
     begins = λ h o task w m t i own _ _ given d.
         let begun : OwnTask = with_begun task w m in
-        let g : Here = logs (with_task_of h o begun) (Begun (attempt o task.number) w) in
+        let g : WorkerContext = logs (with_task_of h o begun) (Begun (attempt o task.number) w) in
         pushes_does g (attempt o task.number) task.spec w m (gave_more c.network (sent_here g) m (attempt o task.number) w (was_sent g) given)
         (logs_does (with_task_of h o begun) (Begun (attempt o task.number) w ∷ []) (begins_does h o task w m own given d));
     pushes_again = λ h k task w m e q d.
@@ -368,14 +368,14 @@ module _ (c : Whole) (me n : ℕ) (old : Worker) (there : item_at c.workers me �
         run_does h run next e same (λ _. over) (λ _. ap has_stopped phase ∙ s)
         (λ j o. (mine h d).out run j e (sym phase ∙ o)) d;
     gets = λ h run content y f e q d.
-        let next : Run = with_answer run content in
+        let next : Execution = with_answer run content in
         let over : run.is_over ≡ false = waits_on h run y f e q d in
         asks_does (logs (with_run h next) (Got run.attempt y content)) (logs_does (with_run h next) (Got run.attempt y content ∷ [])
         (run_does h run next e refl (λ o. o) (λ o. absurd (both_ways run.is_over over o)) (λ j o. absurd (cc)) d));
     faults = λ h run fault y f e q d.
-        let next : Run = record run { phase = HasFaulted fault } in
+        let next : Execution = record run { phase = HasFaulted fault } in
         let over : run.is_over ≡ false = waits_on h run y f e q d in
-        let g : Here = logs (with_run h next) (Faulted run.attempt y fault) in
+        let g : WorkerContext = logs (with_run h next) (Faulted run.attempt y fault) in
         let faulted : Does g = logs_does (with_run h next) (Faulted run.attempt y fault ∷ [])
         (run_does h run next e refl (λ o. o) (λ _. refl) (λ j o. absurd (cc)) d) in
         frees_does g (busy_unwanted g next refl over faulted) faulted;
@@ -386,14 +386,14 @@ module _ (c : Whole) (me n : ℕ) (old : Worker) (there : item_at c.workers me �
         let done : IsDone (look_here h) h.me run.attempt = by_me h run.attempt d (done_here h run e o d) in
         says_does h (TheNode h.worker.node) (Back run.attempt) (home_of h run.attempt d done) d;
     hears = λ h w a told d. says_does h (TheWorker w) (FinishedAck a)
-        (told.tells (look_here h) (sent_here h) (d.goes.workers.letters _ (was_sent h _ told.came))) d;
+        (told.tells (look_here h) (sent_here h) (d.goes.workers.envelopes _ (was_sent h _ told.came))) d;
     back_of = λ h m a same over d.
-        let done : IsDone (look_here h) me a = d.goes.workers.letters _ (was_sent h _ over.came) in
-        subst (λ k. Does (with_there h (posts h.there (letter (TheWorker h.me) (TheNode k) (Back a))))) (sym same)
+        let done : IsDone (look_here h) me a = d.goes.workers.envelopes _ (was_sent h _ over.came) in
+        subst (λ k. Does (with_there h (posts h.there (envelope (TheWorker h.me) (TheNode k) (Back a))))) (sym same)
         (says_does h (TheNode h.worker.node) (Back a) (home_of h a d (by_me h a d done)) d);
   }
     where
-      home_of : (h : Here) (a : Attempt) → Does h → IsDone (look_here h) h.me a → IsBack (look_here h) h.worker.node h.me a
+      home_of : (h : WorkerContext) (a : Attempt) → Does h → IsDone (look_here h) h.me a → IsBack (look_here h) h.worker.node h.me a
       home_of h a d i =
           let g : ◌≡◌ {A = Option Worker} (Some h.worker) (Some i.worker) =
           sym (at_me h.worker h.there.opened) ∙ subst (λ w. look_here h w ≡ Some i.worker) d.who i.there in

@@ -11,28 +11,28 @@ use Rattle.event_log.specs.Events.{accepted_events, is_live}
 use Rattle.event_log.specs.Rules.{Setting}
 use Rattle.event_log.specs.Words.{births}
 use Rattle.event_log.specs.Legal.{opening}
-use Rattle.protocol_laws.specs.of_protocol.Messages.{Ask, Give, Letter, Push, TheNode, TheWorker, Wait, letter}
+use Rattle.protocol_laws.specs.of_protocol.Messages.{Ask, Give, Envelope, Push, TheNode, TheWorker, Wait, envelope}
 use Rattle.protocol_laws.specs.of_protocol.Numbered.{item_at}
 use Rattle.protocol_laws.specs.of_protocol.Sets.{has, object_id}
 use Rattle.protocol_laws.specs.of_protocol_owed.Courses.{course_from}
 use Rattle.protocol_laws.specs.of_protocol_owed.Owed.{RepliesAreMade}
 use Rattle.protocol_laws.specs.of_protocol_owed.Replies.{Brings, GiveIsBegun, Logs, Says}
 use Rattle.protocol_laws.specs.of_protocol_owed.Turns.{AskStands, IsReady}
-use Rattle.protocol_laws.proofs.of_protocol_owed.Letters.{among-nothing}
+use Rattle.protocol_laws.proofs.of_protocol_owed.Envelopes.{among-nothing}
 use Rattle.lease_discipline.specs.Examples.{ClaimsAreJudged, GivesBegin, SlotsAreJudged, TicksOweNothing, first_one, give_comes, given_log, given_network}
 use Rattle.lease_discipline.specs.Examples.{nothing_comes}
 use Rattle.lease_discipline.specs.Examples.{one_once, pushed, scene, waiting_network}
 
 -- ---- a Give
 
--- the letter that comes
+-- the envelope that comes
 give_parts : (n w : ℕ) (a : Attempt) (t v : ℕ) →
-    ◌≡◌ {A = Option Letter} (Some (letter (TheNode 1) (TheWorker 1) (Give first_one 0 2))) (Some (letter (TheNode n) (TheWorker w) (Give a t v))) →
+    ◌≡◌ {A = Option Envelope} (Some (envelope (TheNode 1) (TheWorker 1) (Give first_one 0 2))) (Some (envelope (TheNode n) (TheWorker w) (Give a t v))) →
     (1 ≡ w) × (first_one ≡ a) × (2 ≡ v)
 give_parts n w a t v e =
-    let same : letter (TheNode 1) (TheWorker 1) (Give first_one 0 2) ≡ letter (TheNode n) (TheWorker w) (Give a t v) = cc in
-    let to : TheWorker 1 ≡ TheWorker w = ap (λ (l : Letter). l.receiver) same in
-    let says : Give first_one 0 2 ≡ Give a t v = ap (λ (l : Letter). l.message) same in
+    let same : envelope (TheNode 1) (TheWorker 1) (Give first_one 0 2) ≡ envelope (TheNode n) (TheWorker w) (Give a t v) = cc in
+    let to : TheWorker 1 ≡ TheWorker w = ap (λ (l : Envelope). l.receiver) same in
+    let says : Give first_one 0 2 ≡ Give a t v = ap (λ (l : Envelope). l.message) same in
     (cc, cc, cc)
 
 second : (k : ℕ) → Deliver 2 ≡ Deliver k → 2 ≡ k
@@ -42,10 +42,10 @@ born_one : birth_at (births given_log) (object_id 1 1) ≡ Some one_once
 unfolding same_id
 born_one = refl
 
-brings : (s : Setting) (es : List Entry) (ls : List Letter) (n w : ℕ) (a : Attempt) (t v : ℕ) →
+brings : (s : Setting) (es : List Entry) (ls : List Envelope) (n w : ℕ) (a : Attempt) (t v : ℕ) →
     Brings (give_comes s es ls) (TheNode n) (TheWorker w) (Give a t v) → (1 ≡ w) × (first_one ≡ a) × (2 ≡ v)
 brings s es ls n w a t v (k, e, at) = give_parts n w a t v
-    (subst (λ i. item_at given_network i ≡ Some (letter (TheNode n) (TheWorker w) (Give a t v))) (sym (second k e)) at)
+    (subst (λ i. item_at given_network i ≡ Some (envelope (TheNode n) (TheWorker w) (Give a t v))) (sym (second k e)) at)
 
 give_is_paid : (s : Setting) → GiveIsBegun (give_comes s (Begun first_one 2 ∷ []) pushed)
 give_is_paid s n w a t v spec b unbegun born =
@@ -58,7 +58,7 @@ give_is_paid s n w a t v spec b unbegun born =
     begun_same a v e f = cc
 
     pushed_same : (w v : ℕ) (a : Attempt) (spec : Birth) → 1 ≡ w → 2 ≡ v → first_one ≡ a → one_once ≡ spec →
-        ◌≡◌ {A = Option Letter} (Some (letter (TheWorker 1) (TheWorker 2) (Push first_one one_once))) (Some (letter (TheWorker w) (TheWorker v) (Push a spec)))
+        ◌≡◌ {A = Option Envelope} (Some (envelope (TheWorker 1) (TheWorker 2) (Push first_one one_once))) (Some (envelope (TheWorker w) (TheWorker v) (Push a spec)))
     pushed_same w v a spec e f g h = cc
 
 main_object : main_attempt ≡ first_one → ⊥
@@ -74,7 +74,7 @@ unbegun_yet w (suc (suc (suc (suc (suc zero)))), e) = absurd (cc)
 unbegun_yet w (suc (suc (suc (suc (suc (suc zero))))), e) = absurd (cc)
 unbegun_yet w (suc (suc (suc (suc (suc (suc (suc k)))))), e) = absurd (cc)
 
-owed_by : (s : Setting) (es : List Entry) (ls : List Letter) → GiveIsBegun (give_comes s es ls) →
+owed_by : (s : Setting) (es : List Entry) (ls : List Envelope) → GiveIsBegun (give_comes s es ls) →
     Logs (give_comes s es ls) (Begun first_one 2) × Says (give_comes s es ls) (TheWorker 1) (TheWorker 2) (Push first_one one_once)
 owed_by s es ls g = g 1 1 first_one 0 2 one_once (2, refl, refl) unbegun_yet born_one
 
@@ -160,14 +160,14 @@ ticks_owe_nothing = tick_owes_nothing
 ask_stands : (s : Setting) → AskStands (scene s given_log waiting_network []) 1
 ask_stands s = record { attempt = first_one; t = 0; waits = (1, refl); ungiven = λ w g. none w g }
   where
-    none : (w : ℕ) → Among (letter (TheNode 1) (TheWorker 1) (Give first_one 0 w)) waiting_network → ⊥
+    none : (w : ℕ) → Among (envelope (TheNode 1) (TheWorker 1) (Give first_one 0 w)) waiting_network → ⊥
     none w (zero, e) =
-        let same : letter (TheWorker 1) (TheNode 1) (Ask first_one 0) ≡ letter (TheNode 1) (TheWorker 1) (Give first_one 0 w) = cc in
-        let says : Ask first_one 0 ≡ Give first_one 0 w = ap (λ (l : Letter). l.message) same in
+        let same : envelope (TheWorker 1) (TheNode 1) (Ask first_one 0) ≡ envelope (TheNode 1) (TheWorker 1) (Give first_one 0 w) = cc in
+        let says : Ask first_one 0 ≡ Give first_one 0 w = ap (λ (l : Envelope). l.message) same in
         absurd (cc)
     none w (suc zero, e) =
-        let same : letter (TheNode 1) (TheWorker 1) (Wait first_one 0) ≡ letter (TheNode 1) (TheWorker 1) (Give first_one 0 w) = cc in
-        let says : Wait first_one 0 ≡ Give first_one 0 w = ap (λ (l : Letter). l.message) same in
+        let same : envelope (TheNode 1) (TheWorker 1) (Wait first_one 0) ≡ envelope (TheNode 1) (TheWorker 1) (Give first_one 0 w) = cc in
+        let says : Wait first_one 0 ≡ Give first_one 0 w = ap (λ (l : Envelope). l.message) same in
         absurd (cc)
     none w (suc (suc k), e) = absurd (cc)
 

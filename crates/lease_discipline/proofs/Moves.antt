@@ -6,11 +6,11 @@ use Rattle.meaning.specs.Values.{Id, Outcome, Birth, results_of}
 use Rattle.event_log.specs.Entries.{Attempt, Entry, Got, Fault, Faulted}
 use Rattle.event_log.specs.Words.{attempt}
 use Rattle.protocol_laws.specs.of_protocol.Messages.{EndedResult}
-use Rattle.protocol_laws.specs.of_protocol.Messages.{Message, Party, TheWorker, TheNode, Ask, Give, Elsewhere, Back, Push, Finished, FinishedAck, Failed}
+use Rattle.protocol_laws.specs.of_protocol.Messages.{Message, Endpoint, TheWorker, TheNode, Ask, Give, Elsewhere, Back, Push, Finished, FinishedAck, Failed}
 use Rattle.protocol_laws.specs.of_protocol.Stores.{Store}
-use Rattle.protocol_laws.specs.of_protocol.Tables.{AskedAt, Fetching, HasFaulted, OwnTask, Run, RunsOn, Waits, Worker, has_stopped, owner_of}
+use Rattle.protocol_laws.specs.of_protocol.Tables.{AskedAt, Fetching, HasFaulted, OwnTask, Execution, RunsOn, Waits, Worker, has_stopped, owner_of}
 use Rattle.protocol_laws.specs.of_protocol.Tables.{task_of, with_asker, with_content, with_fault, without_askers}
-use Rattle.protocol_laws.specs.of_protocol.Steps.{Here, with_task_of, with_phase, with_run, logs_all, logs, says, says_to_node, with_worker, with_store, own_id, own_object}
+use Rattle.protocol_laws.specs.of_protocol.Steps.{WorkerContext, with_task_of, with_phase, with_run, logs_all, logs, says, says_to_node, with_worker, with_store, own_id, own_object}
 use Rattle.protocol_laws.specs.of_protocol.Steps.{object_at}
 use Rattle.protocol_laws.specs.of_protocol.Runs.{with_answer, gives_slot_back, asks_for_slot, leaves_if_free, push_reached}
 use Rattle.protocol_laws.specs.of_protocol.Asking.{asks_at, pushes, requests, rests, with_begun}
@@ -43,48 +43,48 @@ is_plain _ = true
 -- IsToldBy w a: worker w told that attempt a is over there. IsOverOf a: the worker was told that its owner heard of attempt a. IsGivenBy n t a w:
 -- node n told the worker that it gave w for ask t of attempt a.
 pub record IsKept (IsToldBy : ℕ → Attempt → Type 0) (IsOverOf : Attempt → Type 0) (IsGivenBy : ℕ → ℕ → Attempt → ℕ → Type 0)
-    (IsPassedBy : Attempt → ℕ → ℕ → Type 0) (P : Here → Type 0) : Type 0 where
-  pub writes : (h : Here) (es : List Entry) → P h → P (logs_all h es)
-  pub says_plain : (h : Here) (w : ℕ) (m : Message) → is_plain m ≡ true → P h → P (says h w m)
-  pub says_plain_to_node : (h : Here) (n : ℕ) (m : Message) → is_plain m ≡ true → P h → P (says_to_node h n m)
-  pub objects : (h : Here) (x : Worker) → LeavesTasks h.worker x → P h → P (with_worker h x)
-  pub store : (h : Here) (s : Store) → P h → P (with_store h s)
+    (IsPassedBy : Attempt → ℕ → ℕ → Type 0) (P : WorkerContext → Type 0) : Type 0 where
+  pub writes : (h : WorkerContext) (es : List Entry) → P h → P (logs_all h es)
+  pub says_plain : (h : WorkerContext) (w : ℕ) (m : Message) → is_plain m ≡ true → P h → P (says h w m)
+  pub says_plain_to_node : (h : WorkerContext) (n : ℕ) (m : Message) → is_plain m ≡ true → P h → P (says_to_node h n m)
+  pub objects : (h : WorkerContext) (x : Worker) → LeavesTasks h.worker x → P h → P (with_worker h x)
+  pub store : (h : WorkerContext) (s : Store) → P h → P (with_store h s)
   -- an own attempt begins on the worker that was given, and is pushed to it again
-  pub begins : (h : Here) (o : Id) (task : OwnTask) (w n t m : ℕ) → o.owner ≡ h.me → task_of (object_at h o) ≡ Some task → task.progress ≡ AskedAt t m →
+  pub begins : (h : WorkerContext) (o : Id) (task : OwnTask) (w n t m : ℕ) → o.owner ≡ h.me → task_of (object_at h o) ≡ Some task → task.progress ≡ AskedAt t m →
       IsGivenBy n t (attempt o task.number) w → P h → P (pushes h o (with_begun task w n) w)
   -- a task is borne; its attempt comes to rest, that was running, or of which the worker told that it is over
-  pub bears_new : (h : Here) (a : Attempt) (spec : Birth) (others : ℕ) (ids : List Id) → P h →
+  pub bears_new : (h : WorkerContext) (a : Attempt) (spec : Birth) (others : ℕ) (ids : List Id) → P h →
       P (with_objects h (task_objects a (length h.worker.objects + 1) spec others ids))
-  pub comes_to_rest : (h : Here) (o : Id) (task : OwnTask) → task_of (object_at h o) ≡ Some task →
+  pub comes_to_rest : (h : WorkerContext) (o : Id) (task : OwnTask) → task_of (object_at h o) ≡ Some task →
       IsRunning task ⊎ ((w : ℕ) × IsToldBy w (attempt o task.number)) →
       P h → P (with_task_of h o (rests task))
-  pub pushes_again : (h : Here) (k : ℕ) (task : OwnTask) (w n : ℕ) → task_of (own_object h k) ≡ Some task → task.progress ≡ RunsOn w n →
+  pub pushes_again : (h : WorkerContext) (k : ℕ) (task : OwnTask) (w n : ℕ) → task_of (own_object h k) ≡ Some task → task.progress ≡ RunsOn w n →
       P h → P (says h w (Push (attempt (own_id h k) task.number) task.spec))
   -- an own attempt is asked for, the first or the next; its ask is sent on, or goes out again
-  pub asks_anew : (h : Here) (o : Id) (old task : OwnTask) → task_of (object_at h o) ≡ Some old → IsNextOf old task → P h → P (requests h o task)
-  pub asks_on : (h : Here) (o : Id) (task : OwnTask) (t m n : ℕ) → task_of (object_at h o) ≡ Some task → task.progress ≡ AskedAt t m →
+  pub asks_anew : (h : WorkerContext) (o : Id) (old task : OwnTask) → task_of (object_at h o) ≡ Some old → IsNextOf old task → P h → P (requests h o task)
+  pub asks_on : (h : WorkerContext) (o : Id) (task : OwnTask) (t m n : ℕ) → task_of (object_at h o) ≡ Some task → task.progress ≡ AskedAt t m →
       IsPassedBy (attempt o task.number) t m → P h → P (asks_at h o task (t + 1) n)
-  pub asks_again : (h : Here) (k : ℕ) (task : OwnTask) (t n : ℕ) → task_of (own_object h k) ≡ Some task → task.progress ≡ AskedAt t n →
+  pub asks_again : (h : WorkerContext) (k : ℕ) (task : OwnTask) (t n : ℕ) → task_of (own_object h k) ≡ Some task → task.progress ≡ AskedAt t n →
       P h → P (says_to_node h n (Ask (attempt (own_id h k) task.number) t))
   -- the attempt is as far as it was; it is over; it is answered, and asks for its slot; it has a fault, and gives its slot back; it waits, and does
-  pub run : (h : Here) (run next : Run) → h.worker.run ≡ Some run → Alike run next → P h → P (with_run h next)
-  pub leaves : (h : Here) (run next : Run) → h.worker.run ≡ Some run → has_stopped run.phase ≡ true → next.attempt ≡ run.attempt → next.phase ≡ run.phase →
+  pub run : (h : WorkerContext) (run next : Execution) → h.worker.run ≡ Some run → Alike run next → P h → P (with_run h next)
+  pub leaves : (h : WorkerContext) (run next : Execution) → h.worker.run ≡ Some run → has_stopped run.phase ≡ true → next.attempt ≡ run.attempt → next.phase ≡ run.phase →
       next.is_over ≡ true → P h → P (with_run h next)
-  pub gets : (h : Here) (run : Run) (c : Outcome) (y : Id) (f : Option Fetching) → h.worker.run ≡ Some run → run.phase ≡ Waits y f →
+  pub gets : (h : WorkerContext) (run : Execution) (c : Outcome) (y : Id) (f : Option Fetching) → h.worker.run ≡ Some run → run.phase ≡ Waits y f →
       P h → P (asks_for_slot (logs (with_run h (with_answer run c)) (Got run.attempt y c)))
-  pub faults : (h : Here) (run : Run) (f : Fault) (y : Id) (g : Option Fetching) → h.worker.run ≡ Some run → run.phase ≡ Waits y g →
+  pub faults : (h : WorkerContext) (run : Execution) (f : Fault) (y : Id) (g : Option Fetching) → h.worker.run ≡ Some run → run.phase ≡ Waits y g →
       P h → P (gives_slot_back (logs (with_phase h run (HasFaulted f)) (Faulted run.attempt y f)))
-  pub frees : (h : Here) (run : Run) (y : Id) (f : Option Fetching) → h.worker.run ≡ Some run → run.phase ≡ Waits y f → P h → P (gives_slot_back h)
+  pub frees : (h : WorkerContext) (run : Execution) (y : Id) (f : Option Fetching) → h.worker.run ≡ Some run → run.phase ≡ Waits y f → P h → P (gives_slot_back h)
   -- what is said of an attempt that is over
-  pub tells_end : (h : Here) (run : Run) (n : ℕ) (rs : List EndedResult) → h.worker.run ≡ Some run → run.is_over ≡ true → P h →
+  pub tells_end : (h : WorkerContext) (run : Execution) (n : ℕ) (rs : List EndedResult) → h.worker.run ≡ Some run → run.is_over ≡ true → P h →
       P (says h (owner_of run) (Finished run.attempt n rs))
-  pub tells_fault : (h : Here) (run : Run) (f : Fault) → h.worker.run ≡ Some run → run.is_over ≡ true → P h → P (says h (owner_of run) (Failed run.attempt f))
-  pub back : (h : Here) (run : Run) → h.worker.run ≡ Some run → run.is_over ≡ true → P h → P (says_to_node h h.worker.node (Back run.attempt))
-  pub hears : (h : Here) (w : ℕ) (a : Attempt) → IsToldBy w a → P h → P (says h w (FinishedAck a))
-  pub back_of : (h : Here) (n : ℕ) (a : Attempt) → n ≡ h.worker.node → IsOverOf a → P h → P (says_to_node h n (Back a))
+  pub tells_fault : (h : WorkerContext) (run : Execution) (f : Fault) → h.worker.run ≡ Some run → run.is_over ≡ true → P h → P (says h (owner_of run) (Failed run.attempt f))
+  pub back : (h : WorkerContext) (run : Execution) → h.worker.run ≡ Some run → run.is_over ≡ true → P h → P (says_to_node h h.worker.node (Back run.attempt))
+  pub hears : (h : WorkerContext) (w : ℕ) (a : Attempt) → IsToldBy w a → P h → P (says h w (FinishedAck a))
+  pub back_of : (h : WorkerContext) (n : ℕ) (a : Attempt) → n ≡ h.worker.node → IsOverOf a → P h → P (says_to_node h n (Back a))
 
 module _ (IsToldBy : ℕ → Attempt → Type 0) (IsOverOf : Attempt → Type 0) (IsGivenBy : ℕ → ℕ → Attempt → ℕ → Type 0)
-    (IsPassedBy : Attempt → ℕ → ℕ → Type 0) (P : Here → Type 0) (kept : IsKept IsToldBy IsOverOf IsGivenBy IsPassedBy P) where
+    (IsPassedBy : Attempt → ℕ → ℕ → Type 0) (P : WorkerContext → Type 0) (kept : IsKept IsToldBy IsOverOf IsGivenBy IsPassedBy P) where
   -- ---- the smallest steps are among these
 
   over : KeepsOver P
@@ -156,40 +156,40 @@ module _ (IsToldBy : ℕ → Attempt → Type 0) (IsOverOf : Attempt → Type 0)
 
   -- ---- each step
 
-  pub leaves_if_free-kept : (h : Here) → P h → P (leaves_if_free h)
+  pub leaves_if_free-kept : (h : WorkerContext) → P h → P (leaves_if_free h)
   leaves_if_free-kept h p = S.leaves_if_free-kept P over h p
 
-  pub holds_ids-kept : (h : Here) (e : Id) (os : List Id) → P h → P (holds_ids h e os)
+  pub holds_ids-kept : (h : WorkerContext) (e : Id) (os : List Id) → P h → P (holds_ids h e os)
   holds_ids-kept h e os p = S.holds_ids-kept P keeps births h e os p
 
-  pub keeps_contents-kept : (h : Here) (o : Id) (number : ℕ) (cs : List Outcome) → P h → P (keeps_contents h o number cs)
+  pub keeps_contents-kept : (h : WorkerContext) (o : Id) (number : ℕ) (cs : List Outcome) → P h → P (keeps_contents h o number cs)
   keeps_contents-kept h o number cs p = S.keeps_contents-kept P keeps births h o number cs p
 
-  pub bears_all-kept : (h : Here) (a : Attempt) (bs : List Birth) → P h → P (bears_all h a bs)
+  pub bears_all-kept : (h : WorkerContext) (a : Attempt) (bs : List Birth) → P h → P (bears_all h a bs)
   bears_all-kept h a bs p = S.bears_all-kept P keeps births h a bs p
 
-  pub asks_where-kept : (h : Here) (y : Id) → P h → P (asks_where h y)
+  pub asks_where-kept : (h : WorkerContext) (y : Id) → P h → P (asks_where h y)
   asks_where-kept h y p =
       S.either P _ _ _ (S.needs_own-kept P keeps h y p) (S.either P _ _ _ (S.faults-kept P keeps h _ p) (kept.says_plain h _ _ refl p))
 
   -- behind the new phase
-  pub needs-kept : (h : Here) (run : Run) (y : Id) → P (with_phase h run (Waits y None)) → P (needs h run y)
+  pub needs-kept : (h : WorkerContext) (run : Execution) (y : Id) → P (with_phase h run (Waits y None)) → P (needs h run y)
   needs-kept h run y p = S.needs-kept P keeps h run y p
 
-  pub tick_step-kept : (h : Here) → P h → P (tick_step h)
+  pub tick_step-kept : (h : WorkerContext) → P h → P (tick_step h)
   tick_step-kept h p = S.tick_step-kept P keeps h tt tt p
 
-  pub notice_step-kept : (h : Here) (v : ℕ) → P h → P (notice_step h v)
+  pub notice_step-kept : (h : WorkerContext) (v : ℕ) → P h → P (notice_step h v)
   notice_step-kept h v p = S.notice_step-kept P keeps h v p
 
-  pub notice_node_step-kept : (h : Here) (m : ℕ) → ((a : Attempt) (t : ℕ) → IsPassedBy a t m) → P h → P (notice_node_step h m)
+  pub notice_node_step-kept : (h : WorkerContext) (m : ℕ) → ((a : Attempt) (t : ℕ) → IsPassedBy a t m) → P h → P (notice_node_step h m)
   notice_node_step-kept h m dead p = S.notice_node_step-kept P keeps h m dead p
 
-  pub release_step-kept : (h : Here) → P h → P (release_step h)
+  pub release_step-kept : (h : WorkerContext) → P h → P (release_step h)
   release_step-kept h p = S.release_step-kept P keeps h p
 
   -- what is known of a message from a worker
-  abbrev pub IsHeard : Here → ℕ → Message → Type 0
+  abbrev pub IsHeard : WorkerContext → ℕ → Message → Type 0
   IsHeard h w (Push a spec) = P (push_reached h a spec)
   IsHeard h w (Finished a n rs) = IsToldBy w a
   IsHeard h w (Failed a f) = IsToldBy w a
@@ -197,14 +197,14 @@ module _ (IsToldBy : ℕ → Attempt → Type 0) (IsOverOf : Attempt → Type 0)
   IsHeard h w m = Unit {0}
 
   -- what is known of a message from a node
-  abbrev pub IsHeardOf : Here → ℕ → Message → Type 0
+  abbrev pub IsHeardOf : WorkerContext → ℕ → Message → Type 0
   IsHeardOf h n (Give a t w) = a.object.owner ≡ h.me → IsGivenBy n t a w
   IsHeardOf h n (Elsewhere a t m) =
       (own : OwnTask) (i : ℕ) → a.object.owner ≡ h.me → task_of (object_at h a.object) ≡ Some own → own.progress ≡ AskedAt t i → own.number ≡ a.number →
       IsPassedBy a t i
   IsHeardOf h n m = Unit {0}
 
-  abbrev pub IsHeardFrom : Here → Party → Message → Type 0
+  abbrev pub IsHeardFrom : WorkerContext → Endpoint → Message → Type 0
   IsHeardFrom h (TheWorker w) m = IsHeard h w m
   IsHeardFrom h (TheNode n) m = IsHeardOf h n m
 
@@ -218,5 +218,5 @@ module _ (IsToldBy : ℕ → Attempt → Type 0) (IsOverOf : Attempt → Type 0)
     elsewhere = λ h n a t m s p. S.elsewhere_reached-kept P keeps h a t m s p;
   }
 
-  pub reached-kept : (h : Here) (from : Party) (m : Message) → IsHeardFrom h from m → P h → P (reached h from m)
+  pub reached-kept : (h : WorkerContext) (from : Endpoint) (m : Message) → IsHeardFrom h from m → P h → P (reached h from m)
   reached-kept h from m s p = S.reached-kept P keeps heard h from m s p

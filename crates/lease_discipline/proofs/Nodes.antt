@@ -9,7 +9,7 @@ use Rattle.event_log.specs.Entries.{Attempt}
 use Rattle.event_log.specs.Words.{same_attempt}
 use Rattle.event_log.proofs.WordLaws.{same_attempt-true, same_attempt-refl}
 use Rattle.protocol_laws.specs.of_protocol.Sets.{first_item, has, without_number}
-use Rattle.protocol_laws.specs.of_protocol.Messages.{Letter}
+use Rattle.protocol_laws.specs.of_protocol.Messages.{Envelope}
 use Rattle.protocol_laws.specs.of_protocol.Nodes.{AskKey, AskReply, Lease, Leased, Scheduler}
 use Rattle.protocol_laws.specs.of_protocol.Slots.{is_latest_lease, may_be_idle, reply_to, same_key, slot_taken, with_answered, with_idle, with_lease, with_reply}
 use Rattle.protocol_laws.specs.of_protocol.Slots.{without_lease, without_slot, without_worker}
@@ -64,18 +64,18 @@ lease-stays (l ∷ ls) w v a apart e =
 -- ---- what a scheduler may come to be
 
 -- a live worker of the node that was given for an attempt which it never began
-pub record IsWanted (look : Look) (sent : List Letter) (n w : ℕ) (a : Attempt) : Type 0 where
+pub record IsWanted (look : Look) (sent : List Envelope) (n w : ℕ) (a : Attempt) : Type 0 where
   pub worker : Worker
   pub there : look w ≡ Some worker
   pub lives : worker.is_live ≡ true
   pub given : Gave sent n a w
   pub unbegun : has_begun a worker.began ≡ false
 
-abbrev pub IsUnwanted : Look → List Letter → ℕ → ℕ → Type 0
+abbrev pub IsUnwanted : Look → List Envelope → ℕ → ℕ → Type 0
 IsUnwanted look sent n w = (a : Attempt) → IsWanted look sent n w a → ⊥
 
 -- s becomes t: no worker is newly idle or leased, no idle one gets a slot or asks for one, and none that is wanted loses its slot or its lease
-pub record Lessens (look : Look) (sent : List Letter) (n : ℕ) (s t : Scheduler) : Type 0 where
+pub record Lessens (look : Look) (sent : List Envelope) (n : ℕ) (s t : Scheduler) : Type 0 where
   pub idle : (w : ℕ) → has t.idle w ≡ true → has s.idle w ≡ true
   pub slotless : (w : ℕ) → has t.idle w ≡ true → has s.holders w ≡ false → has s.answered w ≡ false → (has t.holders w ≡ false) × (has t.answered w ≡ false)
   pub slots : (w : ℕ) (a : Attempt) → IsWanted look sent n w a → has s.holders w ≡ true → has t.holders w ≡ true
@@ -83,7 +83,7 @@ pub record Lessens (look : Look) (sent : List Letter) (n : ℕ) (s t : Scheduler
   pub leased : (w : ℕ) (a : Attempt) → IsWanted look sent n w a → is_latest_lease s w a ≡ true → is_latest_lease t w a ≡ true
   pub replied : (k : AskKey) (w : ℕ) → reply_to t k ≡ Some (Leased w) → reply_to s k ≡ Some (Leased w)
 
-module _ (look : Look) (sent : List Letter) (n : ℕ) where
+module _ (look : Look) (sent : List Envelope) (n : ℕ) where
   pub lessened : (s t : Scheduler) → Lessens look sent n s t → NodeKeeps look sent n s → NodeKeeps look sent n t
   lessened s t l k = record {
     idle = λ w e.
@@ -222,7 +222,7 @@ module _ (look : Look) (sent : List Letter) (n : ℕ) where
   -- ---- a worker is given
 
   -- the node's free worker that isn't wanted is leased to the attempt, and its owner is told
-  module _ (t : List Letter) (s : Scheduler) (k : AskKey) (w : ℕ) (x : Worker) (more : More sent t) (given : Gave t n k.attempt w)
+  module _ (t : List Envelope) (s : Scheduler) (k : AskKey) (w : ℕ) (x : Worker) (more : More sent t) (given : Gave t n k.attempt w)
       (which : (a : Attempt) (v : ℕ) → Gave t n a v → Gave sent n a v ⊎ ((a ≡ k.attempt) × (v ≡ w)))
       (at : look w ≡ Some x) (free : is_free x.run ≡ true) (unwanted : IsUnwanted look sent n w) (keeps : NodeKeeps look sent n s) where
     abbrev next : Scheduler

@@ -10,12 +10,12 @@ use Rattle.protocol_laws.specs.of_protocol.Numbered.{item_at}
 use Rattle.protocol_laws.proofs.of_numbered.Places.{counted}
 use Rattle.protocol_laws.specs.of_protocol.Sets.{repeated}
 use Rattle.protocol_laws.specs.of_protocol.Nodes.{Node, new_node, new_scheduler}
-use Rattle.protocol_laws.specs.of_protocol.Tables.{Out, OwnTask, Ready, Run, Worker, task_of}
-use Rattle.protocol_laws.specs.of_protocol.Whole.{Whole, driver, first_whole, main_run, node_at, worker_at}
+use Rattle.protocol_laws.specs.of_protocol.Tables.{Out, OwnTask, Ready, Execution, Worker, task_of}
+use Rattle.protocol_laws.specs.of_protocol.Cluster.{ClusterState, driver, first_whole, main_run, node_at, worker_at}
 use Rattle.protocol_laws.specs.of_protocol_owed.Courses.{has_begun}
 use Rattle.protocol_laws.proofs.of_protocol_owed.Nodes.{changed_cases, there_still}
 use Rattle.protocol_laws.proofs.of_protocol_owed.CourseEvents.{one_of}
-use Rattle.protocol_laws.proofs.of_protocol_owed.Letters.{among-nothing}
+use Rattle.protocol_laws.proofs.of_protocol_owed.Envelopes.{among-nothing}
 use Rattle.lease_discipline.specs.Discipline.{KeepsLeases, NodeKeeps, WorkerKeeps}
 
 pub only_driver : (w : ℕ) (x : Worker) → item_at (driver ∷ []) w ≡ Some x → (w ≡ 1) × (driver ≡ x)
@@ -26,10 +26,10 @@ only_driver (suc (suc i)) x e = absurd (cc)
 driver_keeps : WorkerKeeps [] [] 1 driver
 driver_keeps = record {
   began = λ a e. elim (or_cases (same_attempt main_attempt a) false e) [ inl f ↦ inl (sym (same_attempt-true main_attempt a f), refl) | inr f ↦ absurd (cc) ];
-  present = λ run e. let is : main_run ≡ run = cc in subst (λ (r : Run). has_begun r.attempt driver.began ≡ true) is
+  present = λ run e. let is : main_run ≡ run = cc in subst (λ (r : Execution). has_begun r.attempt driver.began ≡ true) is
       (or_left (same_attempt main_attempt main_attempt) false (same_attempt-refl main_attempt));
-  stopped = λ run e o. let is : main_run ≡ run = cc in absurd (both_ways run.is_over (ap (λ (r : Run). r.is_over) (sym is)) o);
-  out = λ run j e o. let is : main_run ≡ run = cc in absurd (ready_out j (ap (λ (r : Run). r.phase) is ∙ o));
+  stopped = λ run e o. let is : main_run ≡ run = cc in absurd (both_ways run.is_over (ap (λ (r : Execution). r.is_over) (sym is)) o);
+  out = λ run j e o. let is : main_run ≡ run = cc in absurd (ready_out j (ap (λ (r : Execution). r.phase) is ∙ o));
   runs = λ k task v n e. absurd (none k task e);
 }
   where
@@ -56,7 +56,7 @@ pub opens : (nodes slots : ℕ) → 0 < nodes → KeepsLeases (first_whole nodes
 opens nodes slots some = record {
   workers = record {
     each = λ w x e. let d = only_driver w x e in subst (λ i. WorkerKeeps [] [] i x) (sym d.0) (subst (WorkerKeeps [] [] 1) d.1 driver_keeps);
-    letters = λ l h. absurd (among-nothing l h);
+    envelopes = λ l h. absurd (among-nothing l h);
   };
   nodes = λ n node e. elim (changed_cases (repeated nodes (new_node slots)) 1 n with_slot node e) [
     | inl (_, x, at, is) ↦
@@ -72,7 +72,7 @@ opens nodes slots some = record {
       subst (λ (y : Worker). (k : Node) × (node_at start y.node ≡ Some k)) d.1 (there_still (repeated nodes (new_node slots)) 1 1 with_slot f.0 f.1);
 }
   where
-    start : Whole
+    start : ClusterState
     start = first_whole nodes slots
 
     with_slot : Node → Node

@@ -12,15 +12,15 @@ use Rattle.event_log.specs.Breaks.{Among}
 use Rattle.event_log.proofs.WordLaws.{same_attempt-true, same_attempt-refl}
 use Rattle.protocol_laws.specs.of_protocol.Numbered.{item_at}
 use Rattle.protocol_laws.specs.of_protocol.Sets.{has}
-use Rattle.protocol_laws.specs.of_protocol.Messages.{Letter, letter, Message, Party, TheWorker, TheNode, Push}
+use Rattle.protocol_laws.specs.of_protocol.Messages.{Envelope, envelope, Message, Endpoint, TheWorker, TheNode, Push}
 use Rattle.protocol_laws.specs.of_protocol.Jobs.{AtEnd, AtGet, Outcomes, Stopped, stop_of}
 use Rattle.protocol_laws.specs.of_protocol.Nodes.{posts}
-use Rattle.protocol_laws.specs.of_protocol.Tables.{Fetching, HasEnded, HasFaulted, Out, Phase, Ready, Run, Waits, Worker, has_stopped, new_run}
-use Rattle.protocol_laws.specs.of_protocol.Steps.{Here, logs_all, own_id, with_phase, with_run}
+use Rattle.protocol_laws.specs.of_protocol.Tables.{Fetching, HasEnded, HasFaulted, Out, Phase, Ready, Execution, Waits, Worker, has_stopped, new_run}
+use Rattle.protocol_laws.specs.of_protocol.Steps.{WorkerContext, logs_all, own_id, with_phase, with_run}
 use Rattle.protocol_laws.specs.of_protocol.Runs.{begins_run, is_free, leaves_if_free, push_reached}
 use Rattle.protocol_laws.specs.of_protocol.Commits.{keeps_contents, bears_all, claim_by, claim_step, commit_by, commit_step, ends, next_id_here, stops_by, with_outcomes}
 use Rattle.protocol_laws.specs.of_protocol.Refusals.{is_ready_phase, is_ready_run}
-use Rattle.protocol_laws.specs.of_protocol.Whole.{Whole}
+use Rattle.protocol_laws.specs.of_protocol.Cluster.{ClusterState}
 use Rattle.protocol_laws.specs.of_protocol_owed.Courses.{GoesOn, HasStopped, Rests, has_begun}
 use Rattle.protocol_laws.specs.of_protocol_owed.Told.{pace_in, pace_by}
 use Rattle.protocol_laws.proofs.of_protocol_owed.TellingMore.{stopped_pace, stopped_not, rests_not}
@@ -29,7 +29,7 @@ use Rattle.lease_discipline.specs.Discipline.{Look, Gave, IsBegunBy, IsDoneAt, I
 use Rattle.lease_discipline.proofs.Follows.{Grows, true_more}
 use Rattle.lease_discipline.proofs.Moves.{IsKept, bears_all-kept, keeps_contents-kept, leaves_if_free-kept, needs-kept}
 use Rattle.lease_discipline.proofs.Nodes.{IsUnwanted}
-use Rattle.lease_discipline.proofs.Theres.{letter_cases}
+use Rattle.lease_discipline.proofs.Theres.{envelope_cases}
 use Rattle.lease_discipline.proofs.Heres.{Does, IsToldBy, IsOverOf, IsGivenBy, at_me, at_other, busy_unwanted, by_number, does_kept, frees_does, logs_does}
 use Rattle.lease_discipline.proofs.Heres.{look_here, look_with, mine, run_does, sent_here}
 use Rattle.lease_discipline.proofs.Heres.{was_sent}
@@ -54,11 +54,11 @@ ready_goes (Waits y g) e f = absurd (cc)
 ready_goes (HasEnded c) e f = absurd (cc)
 ready_goes (HasFaulted g) e f = absurd (cc)
 
-module _ (c : Whole) (me n : ℕ) (old : Worker) (there : item_at c.workers me ≡ Some old) where
-  abbrev Here_does : Here → Type 0
+module _ (c : ClusterState) (me n : ℕ) (old : Worker) (there : item_at c.workers me ≡ Some old) where
+  abbrev Here_does : WorkerContext → Type 0
   Here_does = Does c me n old there
 
-  abbrev Kept : (Here → Type 0) → Type 0
+  abbrev Kept : (WorkerContext → Type 0) → Type 0
   Kept P = IsKept (IsToldBy c me n old there) (IsOverOf c me n old there) (IsGivenBy c me n old there) AnyPassed P
 
   kept : Kept Here_does
@@ -66,8 +66,8 @@ module _ (c : Whole) (me n : ℕ) (old : Worker) (there : item_at c.workers me �
 
   -- ---- a Push that begins an attempt
 
-  module _ (h : Here) (a : Attempt) (spec : Birth) (d : Here_does h) (live : h.worker.is_live ≡ true) (u : ℕ)
-      (came : Among (letter (TheWorker u) (TheWorker me) (Push a spec)) c.network) (new : has_begun a h.worker.began ≡ false) where
+  module _ (h : WorkerContext) (a : Attempt) (spec : Birth) (d : Here_does h) (live : h.worker.is_live ≡ true) (u : ℕ)
+      (came : Among (envelope (TheWorker u) (TheWorker me) (Push a spec)) c.network) (new : has_begun a h.worker.began ≡ false) where
     abbrev x : Worker
     x = h.worker
 
@@ -83,7 +83,7 @@ module _ (c : Whole) (me n : ℕ) (old : Worker) (there : item_at c.workers me �
     abbrev look_next : Look
     look_next = look_with c me n old there next opened
 
-    abbrev sent : List Letter
+    abbrev sent : List Envelope
     sent = sent_here c me n old there h
 
     x_there : look me ≡ Some x
@@ -102,14 +102,14 @@ module _ (c : Whole) (me n : ℕ) (old : Worker) (there : item_at c.workers me �
     is_x w z same e = let g : ◌≡◌ {A = Option Worker} (Some x) (Some z) = sym x_there ∙ subst (λ v. look v ≡ Some z) same e in cc
 
     pushed : IsPushed sent (TheWorker u) me a
-    pushed = d.goes.workers.letters (letter (TheWorker u) (TheWorker me) (Push a spec))
-        (was_sent c me n old there h (letter (TheWorker u) (TheWorker me) (Push a spec)) came)
+    pushed = d.goes.workers.envelopes (envelope (TheWorker u) (TheWorker me) (Push a spec))
+        (was_sent c me n old there h (envelope (TheWorker u) (TheWorker me) (Push a spec)) came)
 
     -- the node that gave it is its own
     given_here : Gave sent n a me
     given_here =
         let gave : Gave sent pushed.node a me = pushed.given in
-        let i : IsOfNode look pushed.node me = d.goes.workers.letters _ gave.1 in
+        let i : IsOfNode look pushed.node me = d.goes.workers.envelopes _ gave.1 in
         let is : x ≡ i.worker = is_x me i.worker refl i.there in
         subst (λ m. Gave sent m a me) (sym i.home ∙ ap (λ (z : Worker). z.node) (sym is) ∙ d.home) gave
 
@@ -134,10 +134,10 @@ module _ (c : Whole) (me n : ℕ) (old : Worker) (there : item_at c.workers me �
             | inr same ↦ subst (λ i. IsBegunBy sent me i) same (inr (u, spec, was_sent c me n old there h _ came))
           ];
           present = λ r e. let is : new_run a spec (own_id h (length x.objects + 1)) ≡ r = cc in
-              subst (λ (q : Run). has_begun q.attempt next.began ≡ true) is begun_now;
+              subst (λ (q : Execution). has_begun q.attempt next.began ≡ true) is begun_now;
           stopped = λ r e o. let is : new_run a spec (own_id h (length x.objects + 1)) ≡ r = cc in
-              absurd (both_ways r.is_over (ap (λ (q : Run). q.is_over) (sym is)) o);
-          out = λ r j e o. let is : new_run a spec (own_id h (length x.objects + 1)) ≡ r = cc in absurd (ready_out j (ap (λ (q : Run). q.phase) is ∙ o));
+              absurd (both_ways r.is_over (ap (λ (q : Execution). q.is_over) (sym is)) o);
+          out = λ r j e o. let is : new_run a spec (own_id h (length x.objects + 1)) ≡ r = cc in absurd (ready_out j (ap (λ (q : Execution). q.phase) is ∙ o));
           runs = k.runs;
         }
 
@@ -146,7 +146,7 @@ module _ (c : Whole) (me n : ℕ) (old : Worker) (there : item_at c.workers me �
       listed = begun_still b i.listed;
       over = λ r e same.
           let is : new_run a spec (own_id h (length x.objects + 1)) ≡ r = cc in
-          let this : a ≡ b = ap (λ (q : Run). q.attempt) is ∙ same in
+          let this : a ≡ b = ap (λ (q : Execution). q.attempt) is ∙ same in
           absurd (both_ways (has_begun a x.began) new (ap (λ j. has_begun j x.began) this ∙ i.listed));
     }
 
@@ -199,11 +199,11 @@ module _ (c : Whole) (me n : ℕ) (old : Worker) (there : item_at c.workers me �
             let this : b ≡ a = promise.sole b p.leased in
             both_ways (has_begun b next.began) not_now (ap (λ j. has_begun j next.began) this ∙ begun_now)
 
-        leased_now : (w : ℕ) (z : Worker) (run : Run) → w ≡ me → next ≡ z → z.run ≡ Some run → IsLeasedFor h.there.node.scheduler w run.attempt
+        leased_now : (w : ℕ) (z : Worker) (run : Execution) → w ≡ me → next ≡ z → z.run ≡ Some run → IsLeasedFor h.there.node.scheduler w run.attempt
         leased_now w z run same is e =
-            let f : ◌≡◌ {A = Option Run} next.run (Some run) = ap (λ (y : Worker). y.run) is ∙ e in
+            let f : ◌≡◌ {A = Option Execution} next.run (Some run) = ap (λ (y : Worker). y.run) is ∙ e in
             let this : new_run a spec (own_id h (length x.objects + 1)) ≡ run = cc in
-            let attempts : a ≡ run.attempt = ap (λ (q : Run). q.attempt) this in
+            let attempts : a ≡ run.attempt = ap (λ (q : Execution). q.attempt) this in
             subst (λ v. IsLeasedFor h.there.node.scheduler v run.attempt) (sym same)
             (subst (λ b. IsLeasedFor h.there.node.scheduler me b) attempts promise.sole)
 
@@ -221,15 +221,15 @@ module _ (c : Whole) (me n : ℕ) (old : Worker) (there : item_at c.workers me �
                 | inl same ↦ subst (λ v. WorkerKeeps c.jobs sent v z) (sym same) (subst (WorkerKeeps c.jobs sent me) (is_next w z same e) next_keeps)
                 | inr apart ↦ g.workers.each w z (sym (elsewhere w apart) ∙ e)
               ];
-              letters = λ l i. true_more look look_next sent sent grows (λ _ j. j) l (g.workers.letters l i);
+              envelopes = λ l i. true_more look look_next sent sent grows (λ _ j. j) l (g.workers.envelopes l i);
             };
             there = node_keeps;
             alone = g.alone;
           };
         }
 
-  pub push_does : (h : Here) (a : Attempt) (spec : Birth) → h.worker.is_live ≡ true → (u : ℕ) →
-      Among (letter (TheWorker u) (TheWorker me) (Push a spec)) c.network →
+  pub push_does : (h : WorkerContext) (a : Attempt) (spec : Birth) → h.worker.is_live ≡ true → (u : ℕ) →
+      Among (envelope (TheWorker u) (TheWorker me) (Push a spec)) c.network →
       Here_does h → Here_does (push_reached h a spec)
   push_does h a spec live u came d =
       at_test (λ b. (is_free h.worker.run && not (has_begun a h.worker.began)) ≡ b → Here_does (if b then begins_run h a spec else h))
@@ -243,10 +243,10 @@ module _ (c : Whole) (me n : ℕ) (old : Worker) (there : item_at c.workers me �
 
   -- ---- a claim
 
-  pub claim_does : (h : Here) (j : ℕ) → is_ready_run h.worker.run ≡ true → IsJobOf c.jobs me j → Here_does h → Here_does (claim_step h j)
+  pub claim_does : (h : WorkerContext) (j : ℕ) → is_ready_run h.worker.run ≡ true → IsJobOf c.jobs me j → Here_does h → Here_does (claim_step h j)
   claim_does h j ready job d = by_run h.worker.run refl ready
     where
-      by_run : (r : Option Run) → h.worker.run ≡ r → is_ready_run r ≡ true → Here_does (claim_by h j r)
+      by_run : (r : Option Execution) → h.worker.run ≡ r → is_ready_run r ≡ true → Here_does (claim_by h j r)
       by_run None e f = d
       by_run (Some run) e f =
           run_does c me n old there h run (record run { phase = Out j }) e refl (λ o. o)
@@ -256,10 +256,10 @@ module _ (c : Whole) (me n : ℕ) (old : Worker) (there : item_at c.workers me �
   -- ---- a commit
 
   -- an attempt that goes on does so, whatever is borne
-  abbrev GoesOnHere : Here → Type 0
+  abbrev GoesOnHere : WorkerContext → Type 0
   GoesOnHere h = pace_by h.worker.run ≡ GoesOn
 
-  not_waiting : (run : Run) (r : Option Run) (y : Id) (f : Option Fetching) → r ≡ Some run → run.phase ≡ Waits y f → pace_by r ≡ GoesOn → ⊥
+  not_waiting : (run : Execution) (r : Option Execution) (y : Id) (f : Option Fetching) → r ≡ Some run → run.phase ≡ Waits y f → pace_by r ≡ GoesOn → ⊥
   not_waiting run r y f e q p = rests_not (sym (ap pace_by e ∙ ap pace_in q) ∙ p)
 
   goes_on_kept : Kept GoesOnHere
@@ -289,24 +289,24 @@ module _ (c : Whole) (me n : ℕ) (old : Worker) (there : item_at c.workers me �
   }
 
   -- a worker that is wanted for no other attempt isn't, once its own has stopped
-  pub record StopsHere (h : Here) : Type 0 where
+  pub record StopsHere (h : WorkerContext) : Type 0 where
     pub pace : pace_by h.worker.run ≡ HasStopped
     pub unwanted : (a : Attempt) → h.worker.is_live ≡ true → Gave (sent_here c me n old there h) n a me → has_begun a h.worker.began ≡ false → ⊥
 
-  no_node : (v k : ℕ) → ◌≡◌ {A = Party} (TheNode k) (TheWorker v) → ⊥
+  no_node : (v k : ℕ) → ◌≡◌ {A = Endpoint} (TheNode k) (TheWorker v) → ⊥
   no_node v k e = cc
 
-  -- a letter of a worker gives nobody
-  says_stops : (h : Here) (to : Party) (m : Message) → StopsHere h → StopsHere (record h { there = posts h.there (letter (TheWorker h.me) to m) })
+  -- a envelope of a worker gives nobody
+  says_stops : (h : WorkerContext) (to : Endpoint) (m : Message) → StopsHere h → StopsHere (record h { there = posts h.there (envelope (TheWorker h.me) to m) })
   says_stops h to m p = record {
     pace = p.pace;
-    unwanted = λ a live gave unbegun. elim (letter_cases c.network h.there.out.letters (letter (TheWorker h.me) to m) _ gave.1) [
+    unwanted = λ a live gave unbegun. elim (envelope_cases c.network h.there.out.envelopes (envelope (TheWorker h.me) to m) _ gave.1) [
       | inl f ↦ p.unwanted a live (gave.0, f) unbegun
-      | inr f ↦ no_node h.me n (ap (λ (l : Letter). l.sender) f)
+      | inr f ↦ no_node h.me n (ap (λ (l : Envelope). l.sender) f)
     ];
   }
 
-  stopped_not_waiting : (run : Run) (r : Option Run) (y : Id) (f : Option Fetching) → r ≡ Some run → run.phase ≡ Waits y f → pace_by r ≡ HasStopped → ⊥
+  stopped_not_waiting : (run : Execution) (r : Option Execution) (y : Id) (f : Option Fetching) → r ≡ Some run → run.phase ≡ Waits y f → pace_by r ≡ HasStopped → ⊥
   stopped_not_waiting run r y f e q p = rests_not_stopped (sym (ap pace_by e ∙ ap pace_in q) ∙ p)
 
   stops_kept : Kept StopsHere
@@ -339,15 +339,15 @@ module _ (c : Whole) (me n : ℕ) (old : Worker) (there : item_at c.workers me �
   }
 
   -- an attempt that goes on isn't over
-  going_on : (h : Here) (run : Run) → h.worker.run ≡ Some run → GoesOnHere h → Here_does h → run.is_over ≡ false
+  going_on : (h : WorkerContext) (run : Execution) → h.worker.run ≡ Some run → GoesOnHere h → Here_does h → run.is_over ≡ false
   going_on h run e p d = false_from_ne_true run.is_over (λ o. stopped_not
       (sym (ap pace_by e ∙ stopped_pace run.phase ((mine c me n old there h d).stopped run e o)) ∙ p))
 
-  ends_does : (h : Here) (run : Run) (cs : List Outcome) → h.worker.run ≡ Some run → GoesOnHere h → Here_does h → Here_does (ends h run cs)
+  ends_does : (h : WorkerContext) (run : Execution) (cs : List Outcome) → h.worker.run ≡ Some run → GoesOnHere h → Here_does h → Here_does (ends h run cs)
   ends_does h run cs e p d =
-      let next : Run = record run { phase = HasEnded cs } in
+      let next : Execution = record run { phase = HasEnded cs } in
       let over : run.is_over ≡ false = going_on h run e p d in
-      let g : Here = with_phase h run (HasEnded cs) in
+      let g : WorkerContext = with_phase h run (HasEnded cs) in
       let ended : Here_does g = run_does c me n old there h run next e refl (λ o. o) (λ _. refl) (λ j o. absurd (ended_out cs j o)) d in
       let unwanted : IsUnwanted (look_here c me n old there g) (sent_here c me n old there g) n me = busy_unwanted c me n old there g next refl over ended in
       let stops : StopsHere g = record {
@@ -360,25 +360,25 @@ module _ (c : Whole) (me n : ℕ) (old : Worker) (there : item_at c.workers me �
           unbegun = unbegun;
         });
       } in
-      let left : Here = leaves_if_free (keeps_contents g run.attempt.object run.attempt.number cs) in
+      let left : WorkerContext = leaves_if_free (keeps_contents g run.attempt.object run.attempt.number cs) in
       let left_does : Here_does left = both Here_does kept ended in
       let left_stops : StopsHere left = both StopsHere stops_kept stops in
       frees_does c me n old there left (still_unwanted left left_stops) left_does
     where
-      both : (P : Here → Type 0) (k : Kept P) → P (with_phase h run (HasEnded cs)) →
+      both : (P : WorkerContext → Type 0) (k : Kept P) → P (with_phase h run (HasEnded cs)) →
           P (leaves_if_free (keeps_contents (with_phase h run (HasEnded cs)) run.attempt.object run.attempt.number cs))
       both P k p =
           leaves_if_free-kept (IsToldBy c me n old there) (IsOverOf c me n old there) (IsGivenBy c me n old there) AnyPassed P k _
           (keeps_contents-kept (IsToldBy c me n old there) (IsOverOf c me n old there) (IsGivenBy c me n old there) AnyPassed P k
           (with_phase h run (HasEnded cs)) run.attempt.object run.attempt.number cs p)
 
-      still_unwanted : (g : Here) → StopsHere g → IsUnwanted (look_here c me n old there g) (sent_here c me n old there g) n me
+      still_unwanted : (g : WorkerContext) → StopsHere g → IsUnwanted (look_here c me n old there g) (sent_here c me n old there g) n me
       still_unwanted g s a wanted =
           let f : ◌≡◌ {A = Option Worker} (Some g.worker) (Some wanted.worker) = sym (at_me c me n old there g.worker g.there.opened) ∙ wanted.there in
           let is : g.worker ≡ wanted.worker = cc in
           s.unwanted a (ap (λ (z : Worker). z.is_live) is ∙ wanted.lives) wanted.given (ap (λ (z : Worker). has_begun a z.began) is ∙ wanted.unbegun)
 
-  stops_does : (h : Here) (stop : Stopped) (r : Option Run) → h.worker.run ≡ r → GoesOnHere h → Here_does h → Here_does (stops_by h stop r)
+  stops_does : (h : WorkerContext) (stop : Stopped) (r : Option Execution) → h.worker.run ≡ r → GoesOnHere h → Here_does h → Here_does (stops_by h stop r)
   stops_does h stop None e p d = d
   stops_does h (AtGet y) (Some run) e p d =
       needs-kept (IsToldBy c me n old there) (IsOverOf c me n old there) (IsGivenBy c me n old there) AnyPassed Here_does kept h run y
@@ -386,17 +386,17 @@ module _ (c : Whole) (me n : ℕ) (old : Worker) (there : item_at c.workers me �
       (λ o. absurd (both_ways run.is_over (going_on h run e p d) o)) (λ j o. absurd (waits_out y None j o)) d)
   stops_does h (AtEnd cs) (Some run) e p d = ends_does h run cs e p d
 
-  pub commit_does : (h : Here) (o : Outcomes) (run : Run) → h.worker.run ≡ Some run → run.is_over ≡ false → Here_does h → Here_does (commit_step h o)
+  pub commit_does : (h : WorkerContext) (o : Outcomes) (run : Execution) → h.worker.run ≡ Some run → run.is_over ≡ false → Here_does h → Here_does (commit_step h o)
   commit_does h o run e over d = subst (λ r. Here_does (commit_by h o r)) (sym e) by_run
     where
       by_run : Here_does (commit_by h o (Some run))
       by_run =
           let es : List Entry = commit_entries run.attempt (next_id_here h) o.births o.prints (stop_of o.stop) in
-          let next : Run = with_outcomes run o in
-          let g : Here = logs_all (with_run h next) es in
+          let next : Execution = with_outcomes run o in
+          let g : WorkerContext = logs_all (with_run h next) es in
           let started : Here_does g = logs_does c me n old there (with_run h next) es
           (run_does c me n old there h run next e refl (λ i. i) (λ i. absurd (both_ways run.is_over over i)) (λ j i. absurd (ready_out j i)) d) in
-          let borne : Here = bears_all g run.attempt o.births in
+          let borne : WorkerContext = bears_all g run.attempt o.births in
           let borne_does : Here_does borne = bears_all-kept (IsToldBy c me n old there) (IsOverOf c me n old there)
           (IsGivenBy c me n old there) AnyPassed Here_does kept g run.attempt o.births started in
           let borne_goes : GoesOnHere borne = bears_all-kept (IsToldBy c me n old there) (IsOverOf c me n old there)

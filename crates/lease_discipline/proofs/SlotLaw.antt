@@ -9,7 +9,7 @@ use Rattle.event_log.specs.Rules.{Setting}
 use Rattle.protocol_laws.specs.of_protocol.Nodes.{Node, Scheduler, new_node}
 use Rattle.protocol_laws.specs.of_protocol.Sets.{has, repeated}
 use Rattle.protocol_laws.specs.of_protocol.Tables.{Worker}
-use Rattle.protocol_laws.specs.of_protocol.Whole.{first_whole, node_at, worker_at}
+use Rattle.protocol_laws.specs.of_protocol.Cluster.{first_whole, node_at, worker_at}
 use Rattle.protocol_laws.specs.of_protocol_owed.Courses.{GoesOn, IsLeased, IsOut, LivesOn, course}
 use Rattle.protocol_laws.specs.of_protocol_owed.Runs.{Handing, Running, SlotsAreSound, after_event, after_events, holders_in, opening_run, seen}
 use Rattle.protocol_laws.specs.of_protocol_owed.Turns.{AskStands, IsBusy, RunnerStands}
@@ -95,7 +95,7 @@ module _ (s : Setting) (r : Running) (k : RunKeeps s r) (n : ℕ) (node : Node) 
 
   leased_slot : (w : ℕ) → IsHere w → IsLeased (seen s r) w → has sched.holders w ≡ true
   leased_slot w h l =
-      let i : IsOfNode (worker_at r.whole) l.node w = k.step.leases.workers.letters _ l.given in
+      let i : IsOfNode (worker_at r.whole) l.node w = k.step.leases.workers.envelopes _ l.given in
       let f : ◌≡◌ {A = Option Worker} (Some i.worker) (Some h.worker) = sym i.there ∙ h.there in
       let is : i.worker ≡ h.worker = cc in
       let same : l.node ≡ n = sym i.home ∙ ap (λ (x : Worker). x.node) is ∙ h.home in

@@ -53,8 +53,8 @@ same_tame x y node live run began objects = record {
 -- what a changed object runs, it ran before
 abbrev RunsAsBefore : (Object → Object) → Type 0
 RunsAsBefore f =
-    (y : Object) (task : OwnTask) (v n : ℕ) → task_in (f y).maker ≡ Some task → task.progress ≡ RunsOn v n →
-    (old : OwnTask) × (task_in y.maker ≡ Some old) × (old.progress ≡ RunsOn v n) × (old.number ≡ task.number)
+    (y : Object) (task : OwnTask) (v n : ℕ) → task_in (f y).source ≡ Some task → task.progress ≡ RunsOn v n →
+    (old : OwnTask) × (task_in y.source ≡ Some old) × (old.progress ≡ RunsOn v n) × (old.number ≡ task.number)
 
 changed_tame : (x : Worker) (k : ℕ) (f : Object → Object) → RunsAsBefore f → IsTame x (record x { objects = changed_at x.objects k f })
 changed_tame x k f as_before = record {
@@ -70,13 +70,13 @@ changed_tame x k f as_before = record {
     by_item i task v n q None g e = absurd (cc)
     by_item i task v n q (Some z) g e = elim (changed_cases x.objects k i f z g) [
       | inl (same, y, at, is) ↦
-          let old = as_before y task v n (ap (λ (u : Object). task_in u.maker) (sym is) ∙ e) q in
+          let old = as_before y task v n (ap (λ (u : Object). task_in u.source) (sym is) ∙ e) q in
           record { task = old.0; at = ap task_of at ∙ old.1; progress = old.2; numbered = old.3 }
       | inr (apart, at) ↦ record { task = task; at = ap task_of at ∙ e; progress = q; numbered = refl }
     ]
 
 -- what makes the object isn't touched
-pub untouched_tame : (x : Worker) (k : ℕ) (f : Object → Object) → ((y : Object) → (f y).maker ≡ y.maker) →
+pub untouched_tame : (x : Worker) (k : ℕ) (f : Object → Object) → ((y : Object) → (f y).source ≡ y.source) →
     IsTame x (record x { objects = changed_at x.objects k f })
 untouched_tame x k f same = changed_tame x k f (λ y task v n e q. (task, ap task_in (sym (same y)) ∙ e, q, refl))
 
@@ -86,7 +86,7 @@ pub task_tame : (x : Worker) (k : ℕ) (task : OwnTask) → ((v n : ℕ) → tas
 task_tame x k task rests = changed_tame x k (with_task task) (λ y old v n e q. let same : task ≡ old = cc in
     absurd (rests v n (ap (λ (u : OwnTask). u.progress) same ∙ q)))
 
-pub new_tame : (x : Worker) (y : Object) → ((task : OwnTask) (v n : ℕ) → task_in y.maker ≡ Some task → task.progress ≡ RunsOn v n → ⊥) →
+pub new_tame : (x : Worker) (y : Object) → ((task : OwnTask) (v n : ℕ) → task_in y.source ≡ Some task → task.progress ≡ RunsOn v n → ⊥) →
     IsTame x (record x { objects = x.objects ++ y ∷ [] })
 new_tame x y rests = record {
   node = refl;
@@ -101,7 +101,7 @@ new_tame x y rests = record {
     by_item i task v n q None g e = absurd (cc)
     by_item i task v n q (Some z) g e = elim (push_cases x.objects i y z g) [
       | inl at ↦ record { task = task; at = ap task_of at ∙ e; progress = q; numbered = refl }
-      | inr (last, is) ↦ absurd (rests task v n (ap (λ (u : Object). task_in u.maker) is ∙ e) q)
+      | inr (last, is) ↦ absurd (rests task v n (ap (λ (u : Object). task_in u.source) is ∙ e) q)
     ]
 
 -- the objects of a new task
@@ -141,7 +141,7 @@ places_tame x m = record {
     by_item i task v n q None g e = absurd (cc)
     by_item i task v n q (Some z) g e =
         let r = item_mapped (without_place m) x.objects i z g in
-        record { task = task; at = ap task_of r.1 ∙ ap (λ (u : Object). task_in u.maker) (sym r.2) ∙ e; progress = q; numbered = refl }
+        record { task = task; at = ap task_of r.1 ∙ ap (λ (u : Object). task_in u.source) (sym r.2) ∙ e; progress = q; numbered = refl }
 
 -- ---- changes that leave tasks as they are
 
@@ -152,11 +152,11 @@ pub record LeavesTasks (x y : Worker) : Type 0 where
 pub same_left : (x y : Worker) → y.node ≡ x.node → y.is_live ≡ x.is_live → y.run ≡ x.run → y.began ≡ x.began → y.objects ≡ x.objects → LeavesTasks x y
 same_left x y node live run began objects = record { tame = same_tame x y node live run began objects; tasks = λ k. ap (λ ys. task_of (item_at ys k)) objects }
 
-pub untouched_left : (x : Worker) (k : ℕ) (f : Object → Object) → ((y : Object) → (f y).maker ≡ y.maker) →
+pub untouched_left : (x : Worker) (k : ℕ) (f : Object → Object) → ((y : Object) → (f y).source ≡ y.source) →
     LeavesTasks x (record x { objects = changed_at x.objects k f })
 untouched_left x k f same = record { tame = untouched_tame x k f same; tasks = λ m. same_tasks x.objects k m f same }
 
-pub put_left : (x : Worker) (y : Object) → y.maker ≡ WasPut → LeavesTasks x (record x { objects = x.objects ++ y ∷ [] })
+pub put_left : (x : Worker) (y : Object) → y.source ≡ WasPut → LeavesTasks x (record x { objects = x.objects ++ y ∷ [] })
 put_left x y put = record {
   tame = new_tame x y (λ task v n e _. put_not_task task (ap task_in (sym put) ∙ e));
   tasks = λ k. by_item k (item_at (x.objects ++ y ∷ []) k) refl (item_at x.objects k) refl;
@@ -168,7 +168,7 @@ put_left x y put = record {
     by_item k (Some z) e (Some u) f = ap task_of (there_more x.objects (y ∷ []) k u f) ∙ ap task_of (sym f)
     by_item k (Some z) e None f = elim (push_cases x.objects k y z e) [
       | inl at ↦ ap task_of e ∙ ap task_of (sym at)
-      | inr (last, is) ↦ ap task_of e ∙ ap (λ (u : Object). task_in u.maker) (sym is) ∙ ap task_in put ∙ ap task_of (sym f)
+      | inr (last, is) ↦ ap task_of e ∙ ap (λ (u : Object). task_in u.source) (sym is) ∙ ap task_in put ∙ ap task_of (sym f)
     ]
 
 pub places_left : (x : Worker) (m : ℕ) → LeavesTasks x (record x { objects = map (without_place m) x.objects })

@@ -16,11 +16,11 @@ use Rattle.event_log.proofs.WordLaws.{same_attempt-true}
 use Rattle.event_log.proofs.SaneLaws.{legal_logs_are_sane}
 use Rattle.event_log.specs.Breaks.{Among}
 use Rattle.protocol_laws.specs.of_protocol.Answers.{Answer, Refuses, Takes, answer, logged, whole_after}
-use Rattle.protocol_laws.specs.of_protocol.Jobs.{Given}
-use Rattle.protocol_laws.specs.of_protocol.Messages.{Letter, Party, Push, TheWorker, letter}
+use Rattle.protocol_laws.specs.of_protocol.Jobs.{JobRecord}
+use Rattle.protocol_laws.specs.of_protocol.Messages.{Envelope, Endpoint, Push, TheWorker, envelope}
 use Rattle.protocol_laws.specs.of_protocol.Numbered.{item_at}
-use Rattle.protocol_laws.specs.of_protocol.Tables.{Out, Phase, Ready, Waits, HasEnded, HasFaulted, Run, Worker}
-use Rattle.protocol_laws.specs.of_protocol.Whole.{Whole, driver, first_whole, worker_at}
+use Rattle.protocol_laws.specs.of_protocol.Tables.{Out, Phase, Ready, Waits, HasEnded, HasFaulted, Execution, Worker}
+use Rattle.protocol_laws.specs.of_protocol.Cluster.{ClusterState, driver, first_whole, worker_at}
 use Rattle.protocol_laws.specs.of_protocol_legal.Past.{past}
 use Rattle.protocol_laws.specs.of_protocol_legal.Says.{IsPushed, Says}
 use Rattle.protocol_laws.specs.of_protocol_legal.Whole.{Between, setting_of}
@@ -44,7 +44,7 @@ use Rattle.lease_discipline.proofs.Laws.{pushes_find_free}
 
 -- ---- the same in both words
 
-to_courses : (c : Whole) (log : List Entry) → AllTold (running c log) → TellsCourses log c
+to_courses : (c : ClusterState) (log : List Entry) → AllTold (running c log) → TellsCourses log c
 to_courses c log a = record {
   told = λ later w.
       let h : HoldsAt (course_from (c.network ++ later) w (opening_course w) log) c.workers w = a.held later w in
@@ -52,7 +52,7 @@ to_courses c log a = record {
   given = a.given;
 }
 
-of_courses : (c : Whole) (log : List Entry) → TellsCourses log c → AllTold (running c log)
+of_courses : (c : ClusterState) (log : List Entry) → TellsCourses log c → AllTold (running c log)
 of_courses c log t = record {
   held = λ later w. let h = t.told later w in record { there = h.there; absent = h.absent };
   given = t.given;
@@ -60,7 +60,7 @@ of_courses c log t = record {
 
 -- ---- a sound run with its leases in order is disciplined
 
-all_at : (P : Letter → Type 0) (ls : List Letter) (i : ℕ) (l : Letter) → AllByRecursion P ls → slice_get ls i ≡ Some l → P l
+all_at : (P : Envelope → Type 0) (ls : List Envelope) (i : ℕ) (l : Envelope) → AllByRecursion P ls → slice_get ls i ≡ Some l → P l
 all_at P [] i l all e = absurd (cc)
 all_at P (x ∷ ls) zero l all e = let same : x ≡ l = cc in subst P same all.0
 all_at P (x ∷ ls) (suc i) l all e = all_at P ls i l all.1 e
@@ -72,18 +72,18 @@ out_phase (Waits y f) j e = absurd (cc)
 out_phase (HasEnded c) j e = absurd (cc)
 out_phase (HasFaulted f) j e = absurd (cc)
 
-module _ (s : Setting) (log : List Entry) (c : Whole) (sound : IsSound s log c) (leases : KeepsLeases c) where
+module _ (s : Setting) (log : List Entry) (c : ClusterState) (sound : IsSound s log c) (leases : KeepsLeases c) where
   abbrev b : Between s log c
   b = sound.between
 
   -- whoever is pushed to runs the attempt, by the log
-  pub push_runs : (w u : ℕ) (a : Attempt) (spec : Birth) → Among (letter (TheWorker u) (TheWorker w) (Push a spec)) c.network → worker_of a log ≡ Some w
+  pub push_runs : (w u : ℕ) (a : Attempt) (spec : Birth) → Among (envelope (TheWorker u) (TheWorker w) (Push a spec)) c.network → worker_of a log ≡ Some w
   push_runs w u a spec came =
       let says : IsPushed log a spec w = all_at (Says (past log b.asked)) c.network came.0
-      (letter (TheWorker u) (TheWorker w) (Push a spec)) b.knows.told came.1 in
+      (envelope (TheWorker u) (TheWorker w) (Push a spec)) b.knows.told came.1 in
       says.runs
 
-  run_runs : (w : ℕ) (x : Worker) (run : Run) → worker_at c w ≡ Some x → x.is_live ≡ true → x.run ≡ Some run → worker_of run.attempt log ≡ Some w
+  run_runs : (w : ℕ) (x : Worker) (run : Execution) → worker_at c w ≡ Some x → x.is_live ≡ true → x.run ≡ Some run → worker_of run.attempt log ≡ Some w
   run_runs w x run at live e = ((b.knows.workers w x at live).run run e).runs
 
   same_worker : (a : Attempt) (v w : ℕ) → worker_of a log ≡ Some v → worker_of a log ≡ Some w → v ≡ w
@@ -94,7 +94,7 @@ module _ (s : Setting) (log : List Entry) (c : Whole) (sound : IsSound s log c) 
       is_attempt (attempt_by y.run) a ≡ false
   not_present a v w y runs apart at live = by_run y.run refl
     where
-      by_run : (r : Option Run) → y.run ≡ r → is_attempt (attempt_by r) a ≡ false
+      by_run : (r : Option Execution) → y.run ≡ r → is_attempt (attempt_by r) a ≡ false
       by_run None e = refl
       by_run (Some run) e = false_from_ne_true _ (λ same. apart (same_worker a v w runs
           (ap (λ i. worker_of i log) (sym (same_attempt-true run.attempt a same)) ∙ run_runs w y run at live e)))
@@ -105,38 +105,38 @@ module _ (s : Setting) (log : List Entry) (c : Whole) (sound : IsSound s log c) 
     pushed_by = λ k w from a spec sent. let p = pushed k w from a spec sent in (p.owner, p.from_worker);
     pushed_to = λ k w from a spec sent none.
         let p = pushed k w from a spec sent in
-        let i : IsOfNode (worker_at c) p.node w = leases.workers.letters _ p.given.1 in
+        let i : IsOfNode (worker_at c) p.node w = leases.workers.envelopes _ p.given.1 in
         let f = i.there in
         absurd (cc);
     pushed_alone = λ k v w from a spec sent apart y at live.
         let p = pushed k v from a spec sent in
-        let came = subst (λ q. Among (letter q (TheWorker v) (Push a spec)) c.network) p.from_worker (among_at c.network k _ sent) in
+        let came = subst (λ q. Among (envelope q (TheWorker v) (Push a spec)) c.network) p.from_worker (among_at c.network k _ sent) in
         not_present a v w y (push_runs v p.owner a spec came) apart at live;
     alone = λ v w x at live apart y there lives a e. by_attempt v w x at live apart y there lives a x.run refl e;
     jobs = λ w j y g at live out given. by_job w j y g at given y.run refl out;
     housed = λ w x at live. leases.homes w x at;
   }
     where
-      pushed : (k w : ℕ) (from : Party) (a : Attempt) (spec : Birth) → item_at c.network k ≡ Some (letter from (TheWorker w) (Push a spec)) →
+      pushed : (k w : ℕ) (from : Endpoint) (a : Attempt) (spec : Birth) → item_at c.network k ≡ Some (envelope from (TheWorker w) (Push a spec)) →
           D.IsPushed c.network from w a
-      pushed k w from a spec sent = leases.workers.letters (letter from (TheWorker w) (Push a spec))
-          (among_at c.network k (letter from (TheWorker w) (Push a spec)) sent)
+      pushed k w from a spec sent = leases.workers.envelopes (envelope from (TheWorker w) (Push a spec))
+          (among_at c.network k (envelope from (TheWorker w) (Push a spec)) sent)
 
       by_attempt : (v w : ℕ) (x : Worker) → worker_at c v ≡ Some x → x.is_live ≡ true → v ≢ w → (y : Worker) → worker_at c w ≡ Some y → y.is_live ≡ true →
-          (a : Attempt) (r : Option Run) → x.run ≡ r → attempt_by r ≡ Some a → is_attempt (attempt_by y.run) a ≡ false
+          (a : Attempt) (r : Option Execution) → x.run ≡ r → attempt_by r ≡ Some a → is_attempt (attempt_by y.run) a ≡ false
       by_attempt v w x at live apart y there lives a None e f = absurd (cc)
       by_attempt v w x at live apart y there lives a (Some run) e f =
           let same : run.attempt ≡ a = cc in
           not_present a v w y (subst (λ i. worker_of i log ≡ Some v) same (run_runs v x run at live e)) apart there lives
 
-      by_job : (w j : ℕ) (y : Worker) (g : Given) → worker_at c w ≡ Some y → item_at c.jobs j ≡ Some g → (r : Option Run) → y.run ≡ r →
+      by_job : (w j : ℕ) (y : Worker) (g : JobRecord) → worker_at c w ≡ Some y → item_at c.jobs j ≡ Some g → (r : Option Execution) → y.run ≡ r →
           pace_by r ≡ IsOut j → g.worker ≡ w
       by_job w j y g at given None e out = absurd (cc)
       by_job w j y g at given (Some run) e out =
           let i = (leases.workers.each w y at).out run j e (out_phase run.phase j out) in
-          let f : ◌≡◌ {A = Option Given} (Some g) (Some i.0) = sym given ∙ i.1 in
+          let f : ◌≡◌ {A = Option JobRecord} (Some g) (Some i.0) = sym given ∙ i.1 in
           let same : g ≡ i.0 = cc in
-          ap (λ (z : Given). z.worker) same ∙ i.2
+          ap (λ (z : JobRecord). z.worker) same ∙ i.2
 
 -- ---- the opening
 
@@ -147,7 +147,7 @@ same_one : (w : ℕ) → (w == 1) ≡ true → w ≡ 1
 same_one w e = grind (arith, nat_tests)
 
 module _ (nodes slots : ℕ) where
-  abbrev start : Whole
+  abbrev start : ClusterState
   start = first_whole nodes slots
 
   abbrev of_driver : Course
@@ -194,7 +194,7 @@ events_stay_in_step s apart log c e seat handed step right = record {
       (of_courses c log step.courses));
 }
 
-agrees_now : (s : Setting) (log : List Entry) (c : Whole) → IsInStep s log c → (w : ℕ) (x : Worker) → worker_at c w ≡ Some x → x.is_live ≡ true →
+agrees_now : (s : Setting) (log : List Entry) (c : ClusterState) → IsInStep s log c → (w : ℕ) (x : Worker) → worker_at c w ≡ Some x → x.is_live ≡ true →
     IsAsTold (course (seen s (running c log)) w) x
 agrees_now s log c step w x at live =
     subst (λ ls. IsAsTold (course_from ls w (opening_course w) log) x) (append-nil c.network) ((step.courses.told [] w).there x at live)
@@ -226,10 +226,10 @@ dead_nowhere : (w : ℕ) (log : List Entry) → node_of w log ≡ None → is_li
 unfolding is_live
 dead_nowhere w log e = ap (λ o. on_node o false (λ n. not (list_any (kills w n) (accepted_events log)))) e
 
-pub places : (s : Setting) (log : List Entry) (c : Whole) → Between s log c → (w : ℕ) (x : Worker) → worker_at c w ≡ Some x → node_of w log ≡ Some x.node
+pub places : (s : Setting) (log : List Entry) (c : ClusterState) → Between s log c → (w : ℕ) (x : Worker) → worker_at c w ≡ Some x → node_of w log ≡ Some x.node
 places s log c b w x at = ap (λ ns. from_one ns w) b.knows.opened ∙ node_at_work c.workers w x at
 
-pub lives_there : (s : Setting) (log : List Entry) (c : Whole) → Between s log c → (w : ℕ) → is_live w log ≡ true →
+pub lives_there : (s : Setting) (log : List Entry) (c : ClusterState) → Between s log c → (w : ℕ) → is_live w log ≡ true →
     (x : Worker) × (worker_at c w ≡ Some x) × (x.is_live ≡ true)
 lives_there s log c b w live = by_worker (worker_at c w) refl
   where
@@ -237,7 +237,7 @@ lives_there s log c b w live = by_worker (worker_at c w) refl
     by_worker None e = absurd (both_ways (is_live w log) (dead_nowhere w log (ap (λ ns. from_one ns w) b.knows.opened ∙ nowhere c.workers w e)) live)
     by_worker (Some x) e = (x, e, sym (b.knows.lives w x e) ∙ live)
 
-pub log_tells : (s : Setting) (log : List Entry) (c : Whole) → IsInStep s log c → C.LogTells s (running c log)
+pub log_tells : (s : Setting) (log : List Entry) (c : ClusterState) → IsInStep s log c → C.LogTells s (running c log)
 log_tells s log c step = record {
   there = λ w live. lives_there s log c step.sound.between w live;
   places = λ w x at. places s log c step.sound.between w x at;

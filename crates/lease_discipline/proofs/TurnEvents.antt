@@ -10,17 +10,17 @@ use Rattle.event_log.specs.Entries.{Attempt, Event, Claim, Commit, Deliver, Tick
 use Rattle.event_log.specs.Entries.{Refusal, NotReady, NoJob, Stale, Limit}
 use Rattle.protocol_laws.specs.of_protocol.Numbered.{item_at, changed_at}
 use Rattle.protocol_laws.specs.of_protocol.Sets.{repeated}
-use Rattle.protocol_laws.specs.of_protocol.Messages.{Letter, letter, Message, Party, TheWorker, TheNode, Ask, Give, Elsewhere, Wait, Back, Push, Finished, FinishedAck, Failed}
+use Rattle.protocol_laws.specs.of_protocol.Messages.{Envelope, envelope, Message, Endpoint, TheWorker, TheNode, Ask, Give, Elsewhere, Wait, Back, Push, Finished, FinishedAck, Failed}
 use Rattle.protocol_laws.specs.of_protocol.Messages.{Where, At, Gone, Fetch, CopyOf, Missing, Hold, HoldAck, Unhold}
-use Rattle.protocol_laws.specs.of_protocol.Jobs.{Given, Handed, Job, Nothing, OfAnother, OfJob}
-use Rattle.protocol_laws.specs.of_protocol.Nodes.{Node, Scheduler, There, new_node, new_scheduler}
+use Rattle.protocol_laws.specs.of_protocol.Jobs.{JobRecord, CommitInput, Job, Nothing, OfAnother, OfJob}
+use Rattle.protocol_laws.specs.of_protocol.Nodes.{Node, Scheduler, NodeContext, new_node, new_scheduler}
 use Rattle.protocol_laws.specs.of_protocol.Tables.{Worker, new_worker}
-use Rattle.protocol_laws.specs.of_protocol.Steps.{Here}
+use Rattle.protocol_laws.specs.of_protocol.Steps.{WorkerContext}
 use Rattle.protocol_laws.specs.of_protocol.Runs.{begins_run, is_free, push_reached}
 use Rattle.protocol_laws.specs.of_protocol.Slots.{forgets, node_reached}
 use Rattle.protocol_laws.specs.of_protocol.Releases.{release_step}
-use Rattle.protocol_laws.specs.of_protocol.Whole.{Whole, Moved, moved, node_at, worker_at, there, here, after_node, node_does, node_does_by, worker_does}
-use Rattle.protocol_laws.specs.of_protocol.Whole.{worker_does_by, worker_does_at}
+use Rattle.protocol_laws.specs.of_protocol.Cluster.{ClusterState, Transition, moved, node_at, worker_at, there, here, after_node, node_does, node_does_by, worker_does}
+use Rattle.protocol_laws.specs.of_protocol.Cluster.{worker_does_by, worker_does_at}
 use Rattle.protocol_laws.specs.of_protocol.Commits.{claim_step, commit_step}
 use Rattle.protocol_laws.specs.of_protocol.Notices.{notice_step, notice_node_step}
 use Rattle.protocol_laws.specs.of_protocol.Ticks.{tick_step}
@@ -58,7 +58,7 @@ other_turns look next m s back t = record {
 
 -- ---- the end of a node's event
 
-module _ (d : Whole) (old : Look) (n : ℕ) (t : There) (now : HasTurn (λ w. item_at (d.workers ++ repeated t.opened (new_worker n)) w) n t.node.scheduler)
+module _ (d : ClusterState) (old : Look) (n : ℕ) (t : NodeContext) (now : HasTurn (λ w. item_at (d.workers ++ repeated t.opened (new_worker n)) w) n t.node.scheduler)
     (others : (m : ℕ) (k : Node) → node_at d m ≡ Some k → HasTurn old m k.scheduler)
     (back : (w : ℕ) (y : Worker) → item_at (d.workers ++ repeated t.opened (new_worker n)) w ≡ Some y → (y.node ≡ n) ⊎ (old w ≡ Some y)) where
   turns_end : KeepsSlots (after_node d n t).whole
@@ -72,7 +72,7 @@ module _ (d : Whole) (old : Look) (n : ℕ) (t : There) (now : HasTurn (λ w. it
 
 -- ---- an event of a node
 
-node_back : (d : Whole) (n opened w : ℕ) (y : Worker) → item_at (d.workers ++ repeated opened (new_worker n)) w ≡ Some y →
+node_back : (d : ClusterState) (n opened w : ℕ) (y : Worker) → item_at (d.workers ++ repeated opened (new_worker n)) w ≡ Some y →
     (new_worker n ≡ y) ⊎ (worker_at d w ≡ Some y)
 node_back d n opened w y e = elim (append_split d.workers (repeated opened (new_worker n)) w y e) [
   | inl f ↦ inr f
@@ -80,14 +80,14 @@ node_back d n opened w y e = elim (append_split d.workers (repeated opened (new_
 ]
 
 -- whoever loses its slot is dead
-node_turns : (d : Whole) (n : ℕ) (f : There → There) (b : ℕ → Type 0) → ((t : There) → NoLossBut b t.node.scheduler (f t).node.scheduler) →
+node_turns : (d : ClusterState) (n : ℕ) (f : NodeContext → NodeContext) (b : ℕ → Type 0) → ((t : NodeContext) → NoLossBut b t.node.scheduler (f t).node.scheduler) →
     ((w : ℕ) (y : Worker) → worker_at d w ≡ Some y → y.is_live ≡ true → b w) → KeepsSlots d → KeepsSlots (node_does d n f).whole
 node_turns d n f b less alive k = by_node (node_at d n) refl
   where
     by_node : (o : Option Node) → node_at d n ≡ o → KeepsSlots (node_does_by d n f o).whole
     by_node None e = k
     by_node (Some node) e =
-        let t : There = f (there d n node) in
+        let t : NodeContext = f (there d n node) in
         turns_end d (worker_at d) n t
         (turns_after b (worker_at d) (λ w. item_at (d.workers ++ repeated t.opened (new_worker n)) w) n node.scheduler t.node.scheduler
         (λ w y at live. elim (node_back d n t.opened w y at) [
@@ -98,11 +98,11 @@ node_turns d n f b less alive k = by_node (node_at d n) refl
 
 -- ---- an event of a worker
 
-module _ (c : Whole) (me : ℕ) (x : Worker) (node : Node) (at : worker_at c me ≡ Some x) (home : node_at c x.node ≡ Some node) (k : KeepsSlots c) where
+module _ (c : ClusterState) (me : ℕ) (x : Worker) (node : Node) (at : worker_at c me ≡ Some x) (home : node_at c x.node ≡ Some node) (k : KeepsSlots c) where
   abbrev n : ℕ
   n = x.node
 
-  abbrev P : Here → Type 0
+  abbrev P : WorkerContext → Type 0
   P = Turns c me n x at
 
   kept : IsKept AnyTold AnyOver GivenBy AnyPassed P
@@ -113,7 +113,7 @@ module _ (c : Whole) (me : ℕ) (x : Worker) (node : Node) (at : worker_at c me 
       let all : changed_at c.workers me (λ _. x) ++ [] ≡ c.workers = append-nil (changed_at c.workers me (λ _. x)) ∙ changed_same c.workers me x at in
       record { who = refl; home = refl; turns = subst (λ xs. HasTurn (λ w. item_at xs w) n node.scheduler) (sym all) (k n node home) }
 
-  worker_back : (h : Here) → h.worker.node ≡ n → (w : ℕ) (y : Worker) →
+  worker_back : (h : WorkerContext) → h.worker.node ≡ n → (w : ℕ) (y : Worker) →
       item_at (changed_at c.workers me (λ _. h.worker) ++ repeated h.there.opened (new_worker n)) w ≡ Some y →
       (y.node ≡ n) ⊎ (worker_at c w ≡ Some y)
   worker_back h there w y e = elim (append_split (changed_at c.workers me (λ _. h.worker)) (repeated h.there.opened (new_worker n)) w y e) [
@@ -124,18 +124,18 @@ module _ (c : Whole) (me : ℕ) (x : Worker) (node : Node) (at : worker_at c me 
     | inr (_, (i, f)) ↦ inl (ap (λ (z : Worker). z.node) (sym (one_of i h.there.opened w (new_worker n) y f)))
   ]
 
-  worker_turns_at : (f : Here → Here) → (P (here c me x node) → P (f (here c me x node))) → KeepsSlots (worker_does_at c me x f (Some node)).whole
+  worker_turns_at : (f : WorkerContext → WorkerContext) → (P (here c me x node) → P (f (here c me x node))) → KeepsSlots (worker_does_at c me x f (Some node)).whole
   worker_turns_at f step =
-      let g : Here = f (here c me x node) in
-      let h : Here = release_step g in
+      let g : WorkerContext = f (here c me x node) in
+      let h : WorkerContext = release_step g in
       let p : P h = release_step-kept AnyTold AnyOver GivenBy AnyPassed P kept g (step turns_begin) in
       turns_end (record c { workers = changed_at c.workers me (λ _. h.worker) }) (worker_at c) n h.there p.turns k (λ w y e. worker_back h p.home w y e)
 
-abbrev Steps : Whole → ℕ → (Here → Here) → Type 0
+abbrev Steps : ClusterState → ℕ → (WorkerContext → WorkerContext) → Type 0
 Steps c w f = (x : Worker) (at : worker_at c w ≡ Some x) (node : Node) → node_at c x.node ≡ Some node → Turns c w x.node x at (here c w x node) →
     Turns c w x.node x at (f (here c w x node))
 
-worker_turns : (c : Whole) (w : ℕ) (f : Here → Here) → Steps c w f → KeepsSlots c → KeepsSlots (worker_does c w f).whole
+worker_turns : (c : ClusterState) (w : ℕ) (f : WorkerContext → WorkerContext) → Steps c w f → KeepsSlots c → KeepsSlots (worker_does c w f).whole
 worker_turns c w f steps k = by_worker (worker_at c w) refl
   where
     by_node : (x : Worker) → worker_at c w ≡ Some x → (o : Option Node) → node_at c x.node ≡ o → KeepsSlots (worker_does_at c w x f o).whole
@@ -148,10 +148,10 @@ worker_turns c w f steps k = by_worker (worker_at c w) refl
 
 -- ---- claims and commits
 
-claim_event : (c : Whole) (w : ℕ) → or_refusal (no_worker c w) (unless (is_ready c w) NotReady) ≡ None → KeepsSlots c → KeepsSlots (claimed c w).whole
+claim_event : (c : ClusterState) (w : ℕ) → or_refusal (no_worker c w) (unless (is_ready c w) NotReady) ≡ None → KeepsSlots c → KeepsSlots (claimed c w).whole
 claim_event c w e k =
-    let jobs : List Given = c.jobs ++ record { worker = w; is_committed = false } ∷ [] in
-    let d : Whole = record c { jobs = jobs } in
+    let jobs : List JobRecord = c.jobs ++ record { worker = w; is_committed = false } ∷ [] in
+    let d : ClusterState = record c { jobs = jobs } in
     let ready : is_ready c w ≡ true = passed (is_ready c w) NotReady (both_passed (no_worker c w) (unless (is_ready c w) NotReady) e).1 in
     worker_turns d w (λ h. claim_step h (length c.jobs + 1))
     (λ x at node home t.
@@ -159,7 +159,7 @@ claim_event c w e k =
     let slot : has_slot w (Some node) ≡ true = ap (has_slot w) (sym home) ∙ and_right (x.is_live && is_ready_run x.run) (has_slot w (node_at c x.node)) f in
     claim_turns d w x.node x at (here d w x node) (length c.jobs + 1) slot t) k
 
-commit_event : (c : Whole) (j : ℕ) (handed : Handed) (g : Option Given) → commit_refusal c j handed g ≡ None → KeepsSlots c →
+commit_event : (c : ClusterState) (j : ℕ) (handed : CommitInput) (g : Option JobRecord) → commit_refusal c j handed g ≡ None → KeepsSlots c →
     KeepsSlots (committed_by c j handed g).whole
 commit_event c j Nothing g e k = k
 commit_event c j OfAnother g e k = k
@@ -170,7 +170,7 @@ commit_event c j (OfJob o) (Some g) e k =
     let out : is_out_by (worker_at c g.worker) j ≡ true =
     and_right open_job (is_out_by (worker_at c g.worker) j) (passed (open_job && is_out_by (worker_at c g.worker) j) NoJob both.0) in
     let live : is_live_worker (worker_at c g.worker) ≡ true = passed (is_live_worker (worker_at c g.worker)) Stale both.1 in
-    let d : Whole = with_committed c j (objects_made o.births) in
+    let d : ClusterState = with_committed c j (objects_made o.births) in
     worker_turns d g.worker (λ h. commit_step h o)
     (λ x at node home t.
     let run : OutOf x.run j = out_of x.run j (ap (λ y. is_out_by y j) (sym at) ∙ out) in
@@ -178,18 +178,18 @@ commit_event c j (OfJob o) (Some g) e k =
 
 -- ---- deliveries
 
-module _ (c : Whole) (i w : ℕ) (from : Party) (x : Worker) (at : worker_at c w ≡ Some x) (node : Node) (home : node_at c x.node ≡ Some node)
+module _ (c : ClusterState) (i w : ℕ) (from : Endpoint) (x : Worker) (at : worker_at c w ≡ Some x) (node : Node) (home : node_at c x.node ≡ Some node)
     (live : x.is_live ≡ true) (leases : KeepsLeases c) where
-  abbrev start : Here
+  abbrev start : WorkerContext
   start = here c w x node
 
-  abbrev Q : Here → Type 0
+  abbrev Q : WorkerContext → Type 0
   Q = Turns c w x.node x at
 
   abbrev q_kept : IsKept AnyTold AnyOver GivenBy AnyPassed Q
   q_kept = turns_kept c w x.node x at AnyTold AnyOver GivenBy
 
-  push_heard : (a : Attempt) (spec : Birth) → item_at c.network i ≡ Some (letter from (TheWorker w) (Push a spec)) → Q start → Q (push_reached start a spec)
+  push_heard : (a : Attempt) (spec : Birth) → item_at c.network i ≡ Some (envelope from (TheWorker w) (Push a spec)) → Q start → Q (push_reached start a spec)
   push_heard a spec sent t =
       at_test (λ b. (is_free x.run && not (has_begun a x.began)) ≡ b → Q (if b then begins_run start a spec else start))
       (is_free x.run && not (has_begun a x.began))
@@ -201,7 +201,7 @@ module _ (c : Whole) (i w : ℕ) (from : Party) (x : Worker) (at : worker_at c w
       negated true e = absurd (cc)
       negated false e = refl
 
-  heard_worker : (u : ℕ) → from ≡ TheWorker u → (m : Message) → item_at c.network i ≡ Some (letter from (TheWorker w) m) → Q start →
+  heard_worker : (u : ℕ) → from ≡ TheWorker u → (m : Message) → item_at c.network i ≡ Some (envelope from (TheWorker w) m) → Q start →
       IsHeardFrom AnyTold AnyOver GivenBy AnyPassed Q q_kept start (TheWorker u) m
   heard_worker u e (Push a spec) sent t = push_heard a spec sent t
   heard_worker u e (Finished a n rs) sent t = tt
@@ -242,38 +242,38 @@ module _ (c : Whole) (i w : ℕ) (from : Party) (x : Worker) (at : worker_at c w
   heard_node n (HoldAck h o) = tt
   heard_node n (Unhold h o why) = tt
 
-  reached_turns : (m : Message) → item_at c.network i ≡ Some (letter from (TheWorker w) m) → Q start → Q (reached start from m)
-  reached_turns m sent t = by_party from refl
+  reached_turns : (m : Message) → item_at c.network i ≡ Some (envelope from (TheWorker w) m) → Q start → Q (reached start from m)
+  reached_turns m sent t = by_endpoint from refl
     where
-      by_party : (s : Party) → from ≡ s → Q (reached start s m)
-      by_party (TheWorker u) e = reached-kept AnyTold AnyOver GivenBy AnyPassed Q q_kept start (TheWorker u) m (heard_worker u e m sent t) t
-      by_party (TheNode n) e = reached-kept AnyTold AnyOver GivenBy AnyPassed Q q_kept start (TheNode n) m (heard_node n m) t
+      by_endpoint : (s : Endpoint) → from ≡ s → Q (reached start s m)
+      by_endpoint (TheWorker u) e = reached-kept AnyTold AnyOver GivenBy AnyPassed Q q_kept start (TheWorker u) m (heard_worker u e m sent t) t
+      by_endpoint (TheNode n) e = reached-kept AnyTold AnyOver GivenBy AnyPassed Q q_kept start (TheNode n) m (heard_node n m) t
 
-letter_event : (c : Whole) (i : ℕ) (s to : Party) (m : Message) → item_at c.network i ≡ Some (letter s to m) → KeepsLeases c → KeepsSlots c →
-    KeepsSlots (delivered_to c (letter s to m) to).whole
-letter_event c i s (TheWorker w) m sent leases k =
+envelope_event : (c : ClusterState) (i : ℕ) (s to : Endpoint) (m : Message) → item_at c.network i ≡ Some (envelope s to m) → KeepsLeases c → KeepsSlots c →
+    KeepsSlots (delivered_to c (envelope s to m) to).whole
+envelope_event c i s (TheWorker w) m sent leases k =
     at_test (λ b. is_live_worker (worker_at c w) ≡ b → KeepsSlots (if b then worker_does c w (λ h. reached h s m) else moved c).whole)
     (is_live_worker (worker_at c w))
     (λ _ e. worker_turns c w (λ h. reached h s m) (λ x at node home t. reached_turns c i w s x at node home (ap is_live_worker (sym at) ∙ e) leases m sent t) k)
     (λ _ _. k) refl
-letter_event c i s (TheNode n) m sent leases k =
+envelope_event c i s (TheNode n) m sent leases k =
     at_test (λ b. KeepsSlots (if b then node_does c n (λ h. node_reached h s m) else moved c).whole) (is_live_node (node_at c n))
     (λ _. node_turns c n (λ h. node_reached h s m) Anyone (λ t. reached_lose t s m) (λ w y at live. tt) k) (λ _. k)
 
-deliver_event : (c : Whole) (i : ℕ) (l : Option Letter) → item_at c.network i ≡ l → KeepsLeases c → KeepsSlots c → KeepsSlots (delivered_by c i l).whole
+deliver_event : (c : ClusterState) (i : ℕ) (l : Option Envelope) → item_at c.network i ≡ l → KeepsLeases c → KeepsSlots c → KeepsSlots (delivered_by c i l).whole
 deliver_event c i None at leases k = k
 deliver_event c i (Some x) at leases k =
-    letter_event (with_delivered c i) i x.sender x.receiver x.message at (record { workers = leases.workers; nodes = leases.nodes; homes = leases.homes }) k
+    envelope_event (with_delivered c i) i x.sender x.receiver x.message at (record { workers = leases.workers; nodes = leases.nodes; homes = leases.homes }) k
 
 -- ---- deaths
 
 not_dead : (x y : Worker) → y ≡ dead x → y.is_live ≡ true → ⊥
 not_dead x y e live = both_ways y.is_live (ap (λ (z : Worker). z.is_live) e) live
 
-kill_event : (c : Whole) (w : ℕ) (o : Option Worker) → worker_at c w ≡ o → KeepsSlots c → KeepsSlots (killed_by c w o).whole
+kill_event : (c : ClusterState) (w : ℕ) (o : Option Worker) → worker_at c w ≡ o → KeepsSlots c → KeepsSlots (killed_by c w o).whole
 kill_event c w None at k = k
 kill_event c w (Some x) at k =
-    let d : Whole = record c { workers = changed_at c.workers w dead } in
+    let d : ClusterState = record c { workers = changed_at c.workers w dead } in
     node_turns d x.node (λ t. forgets t w) (Others w) (λ t. forgets_lose t w)
     (λ v y there live same. elim (changed_cases c.workers w v dead y there) [ inl (_, z, _, is) ↦ not_dead z y is live | inr (apart, _) ↦ apart (sym same) ])
     (λ n node e. turns_after Anyone (worker_at c) (worker_at d) n node.scheduler node.scheduler
@@ -288,7 +288,7 @@ survivor : (x y : Worker) (b : Bool) → y ≡ (if b then dead x else x) → y.i
 survivor x y true e live = absurd (not_dead x y e live)
 survivor x y false e live = sym e
 
-kill_node_event : (c : Whole) (n : ℕ) (f : Node → Node) → ((node : Node) → (f node).scheduler ≡ node.scheduler) → KeepsSlots c →
+kill_node_event : (c : ClusterState) (n : ℕ) (f : Node → Node) → ((node : Node) → (f node).scheduler ≡ node.scheduler) → KeepsSlots c →
     KeepsSlots (record c { nodes = changed_at c.nodes n f; workers = map (dies_with n) c.workers })
 kill_node_event c n f same k m node e =
     let next : Look = λ w. item_at (map (dies_with n) c.workers) w in
@@ -304,7 +304,7 @@ kill_node_event c n f same k m node e =
       | inr (_, at) ↦ of_node node at refl
     ]
 
-store_event : (c : Whole) (n : ℕ) (f : Node → Node) → ((node : Node) → (f node).scheduler ≡ node.scheduler) → KeepsSlots c →
+store_event : (c : ClusterState) (n : ℕ) (f : Node → Node) → ((node : Node) → (f node).scheduler ≡ node.scheduler) → KeepsSlots c →
     KeepsSlots (record c { nodes = changed_at c.nodes n f })
 store_event c n f same k m node e = elim (changed_cases c.nodes n m f node e) [
   | inl (_, old, at, is) ↦ subst (HasTurn (worker_at c) m) (sym (ap (λ (y : Node). y.scheduler) is ∙ same old)) (k m old at)
@@ -312,7 +312,7 @@ store_event c n f same k m node e = elim (changed_cases c.nodes n m f node e) [
 ]
 
 -- nobody is on a node that comes
-join_event : (c : Whole) → KeepsLeases c → KeepsSlots c → KeepsSlots (record c { nodes = c.nodes ++ new_node c.slots ∷ [] })
+join_event : (c : ClusterState) → KeepsLeases c → KeepsSlots c → KeepsSlots (record c { nodes = c.nodes ++ new_node c.slots ∷ [] })
 join_event c leases k n node e = elim (push_cases c.nodes n (new_node c.slots) node e) [
   | inl old ↦ k n node old
   | inr (last, is) ↦ subst (λ (x : Node). HasTurn (worker_at c) n x.scheduler) is (nobody n (nothing_past c.nodes n (omega (arith, last))))
@@ -329,7 +329,7 @@ join_event c leases k n node e = elim (push_cases c.nodes n (new_node c.slots) n
 
 -- ---- every event
 
-pub happens_turns : (c : Whole) (e : Event) (handed : Handed) → refusal c e handed ≡ None → KeepsLeases c → KeepsSlots c → KeepsSlots (happens c e handed).whole
+pub happens_turns : (c : ClusterState) (e : Event) (handed : CommitInput) → refusal c e handed ≡ None → KeepsLeases c → KeepsSlots c → KeepsSlots (happens c e handed).whole
 happens_turns c (Claim w) handed e leases k = claim_event c w e k
 happens_turns c (Commit j) handed e leases k = commit_event c j handed (item_at c.jobs j) e k
 happens_turns c (Deliver i) handed e leases k = deliver_event c i (item_at c.network i) refl leases k
@@ -348,16 +348,16 @@ happens_turns c (Kill w) handed e leases k = kill_event c w (worker_at c w) refl
 happens_turns c (KillNode n) handed e leases k = kill_node_event c n _ (λ _. refl) k
 happens_turns c Join handed e leases k = join_event c leases k
 
-limited_turns : (c : Whole) (m : Moved) (b : Bool) (given : Option Job) → KeepsSlots c → KeepsSlots m.whole →
+limited_turns : (c : ClusterState) (m : Transition) (b : Bool) (given : Option Job) → KeepsSlots c → KeepsSlots m.whole →
     KeepsSlots (whole_after c (if b then takes m given else Refuses Limit))
 limited_turns c m true given k l = l
 limited_turns c m false given k l = k
 
-decided_turns : (c : Whole) (e : Event) (handed : Handed) (code : Option Refusal) → refusal c e handed ≡ code → KeepsLeases c → KeepsSlots c →
+decided_turns : (c : ClusterState) (e : Event) (handed : CommitInput) (code : Option Refusal) → refusal c e handed ≡ code → KeepsLeases c → KeepsSlots c →
     KeepsSlots (whole_after c (decided c e handed code))
 decided_turns c e handed None unrefused leases k =
     limited_turns c (happens c e handed) (is_within_limits (happens c e handed).whole) (given_out c e) k (happens_turns c e handed unrefused leases k)
 decided_turns c e handed (Some code) refused leases k = k
 
-pub events_keep_turns : (c : Whole) (e : Event) (handed : Handed) → KeepsLeases c → KeepsSlots c → KeepsSlots (whole_after c (answer c e handed))
+pub events_keep_turns : (c : ClusterState) (e : Event) (handed : CommitInput) → KeepsLeases c → KeepsSlots c → KeepsSlots (whole_after c (answer c e handed))
 events_keep_turns c e handed leases k = decided_turns c e handed (refusal c e handed) refl leases k

@@ -10,21 +10,21 @@ use Rattle.event_log.specs.Entries.{Attempt, Entry, Faulted, Got}
 use Rattle.protocol_laws.specs.of_protocol.Numbered.{item_at}
 use Rattle.protocol_laws.specs.of_protocol.Sets.{first_item, has, least, repeated, rest_of}
 use Rattle.protocol_laws.specs.of_protocol.Jobs.{AtEnd, AtGet, Outcomes, Stopped, stop_of}
-use Rattle.protocol_laws.specs.of_protocol.Messages.{Message, Party, TheWorker, TheNode, Ask, Give, Elsewhere, Wait, Back, Push, Finished, FinishedAck, Failed}
+use Rattle.protocol_laws.specs.of_protocol.Messages.{Message, Endpoint, TheWorker, TheNode, Ask, Give, Elsewhere, Wait, Back, Push, Finished, FinishedAck, Failed}
 use Rattle.protocol_laws.specs.of_protocol.Messages.{Where, At, Gone, Fetch, CopyOf, Missing, Hold, HoldAck, Unhold}
 use Rattle.protocol_laws.specs.of_protocol.Stores.{copy_in}
-use Rattle.protocol_laws.specs.of_protocol.Nodes.{AskKey, AskReply, Scheduler, SentOn, There, with_scheduler}
+use Rattle.protocol_laws.specs.of_protocol.Nodes.{AskKey, AskReply, Scheduler, SentOn, NodeContext, with_scheduler}
 use Rattle.protocol_laws.specs.of_protocol.Slots.{ask_key, asked_by, asks_slot, fetched, forgets, frees, gives_worker, grants, grants_next, grants_queued, has_free_slot}
 use Rattle.protocol_laws.specs.of_protocol.Slots.{has_no_slot_for, leases_idle, may_be_idle}
 use Rattle.protocol_laws.specs.of_protocol.Slots.{next_in_circle, node_reached, node_reached_from, queues, replies_anew, reply_to, with_answered, with_idle, without_slot}
 use Rattle.protocol_laws.specs.of_protocol.Slots.{without_worker}
-use Rattle.protocol_laws.specs.of_protocol.Tables.{Fetching, HasEnded, HasFaulted, Out, OwnTask, Run, Waits, Worker, new_worker}
-use Rattle.protocol_laws.specs.of_protocol.Steps.{Here, logs, logs_all, with_phase, with_run, with_task_of, with_worker}
+use Rattle.protocol_laws.specs.of_protocol.Tables.{Fetching, HasEnded, HasFaulted, Out, OwnTask, Execution, Waits, Worker, new_worker}
+use Rattle.protocol_laws.specs.of_protocol.Steps.{WorkerContext, logs, logs_all, with_phase, with_run, with_task_of, with_worker}
 use Rattle.protocol_laws.specs.of_protocol.Runs.{asks_for_slot, begins_run, gives_slot_back, leaves_if_free, with_answer}
 use Rattle.protocol_laws.specs.of_protocol.Asking.{asks_at, rests, with_begun}
 use Rattle.protocol_laws.specs.of_protocol.Tables.{AskedAt}
 use Rattle.protocol_laws.specs.of_protocol.Commits.{bears_all, keeps_contents, task_objects, with_objects, claim_by, claim_step, commit_by, commit_step, ends, next_id_here, stops_by, with_outcomes}
-use Rattle.protocol_laws.specs.of_protocol.Whole.{Whole}
+use Rattle.protocol_laws.specs.of_protocol.Cluster.{ClusterState}
 use Rattle.protocol_laws.specs.of_protocol_owed.Courses.{GoesOn, HasStopped, IsOut, Rests}
 use Rattle.protocol_laws.proofs.of_protocol_owed.CourseEvents.{append_split, one_of}
 use Rattle.protocol_laws.proofs.of_protocol_owed.Nodes.{there_more}
@@ -62,14 +62,14 @@ then_lost b s t u p q = record {
 but : (b : ℕ → Type 0) (s t : Scheduler) → NoLoss s t → NoLossBut b s t
 but b s t p = record { holders = λ w _ e. p.holders w tt e; answered = λ w _ e. p.answered w tt e }
 
-abbrev pub sch : There → Scheduler
+abbrev pub sch : NodeContext → Scheduler
 sch t = t.node.scheduler
 
-leases_lose : (t : There) (k : AskKey) (o : Option ℕ) → NoLoss (sch t) (sch (leases_idle t k o))
+leases_lose : (t : NodeContext) (k : AskKey) (o : Option ℕ) → NoLoss (sch t) (sch (leases_idle t k o))
 leases_lose t k None = record { holders = λ w _ e. list_any-push_left (λ y. y == w) (sch t).holders _ e; answered = λ w _ e. inr e }
 leases_lose t k (Some v) = record { holders = λ w _ e. list_any-push_left (λ y. y == w) (sch t).holders v e; answered = λ w _ e. inr e }
 
-asked_lose : (t : There) (k : AskKey) (x : Option AskReply) → NoLoss (sch t) (sch (asked_by t k x))
+asked_lose : (t : NodeContext) (k : AskKey) (x : Option AskReply) → NoLoss (sch t) (sch (asked_by t k x))
 asked_lose t k None =
     at_test (λ b. NoLoss (sch t) (sch (if b then gives_worker t k else has_no_slot_for t k))) (has_free_slot (sch t))
     (λ _. leases_lose t k (least (sch t).idle))
@@ -77,7 +77,7 @@ asked_lose t k None =
     (λ _. record { holders = λ w _ e. e; answered = λ w _ e. inr e }) (λ _. record { holders = λ w _ e. e; answered = λ w _ e. inr e }))
 asked_lose t k (Some x) = none_lost (sch t)
 
-grants_queued_lose : (t : There) (k : Option AskKey) → NoLoss (sch t) (sch (grants_queued t k))
+grants_queued_lose : (t : NodeContext) (k : Option AskKey) → NoLoss (sch t) (sch (grants_queued t k))
 grants_queued_lose t None = none_lost (sch t)
 grants_queued_lose t (Some k) =
     let q : Scheduler = record (sch t) { queue = rest_of (sch t).queue } in
@@ -90,7 +90,7 @@ first_or_rest (x ∷ xs) w v e f =
     let same : x ≡ w = cc in
     elim (or_cases (x == v) (has xs v) f) [ inl g ↦ inl (sym same ∙ eqb-true x v g) | inr g ↦ inr g ]
 
-grants_next_lose : (t : There) (o : Option ℕ) → first_item (sch t).answered ≡ o → NoLoss (sch t) (sch (grants_next t o))
+grants_next_lose : (t : NodeContext) (o : Option ℕ) → first_item (sch t).answered ≡ o → NoLoss (sch t) (sch (grants_next t o))
 grants_next_lose t None e = grants_queued_lose t (first_item (sch t).queue)
 grants_next_lose t (Some w) e = record {
   holders = λ v _ f. list_any-push_left (λ y. y == v) (sch t).holders w f;
@@ -100,7 +100,7 @@ grants_next_lose t (Some w) e = record {
   ];
 }
 
-grants_lose : (t : There) → NoLoss (sch t) (sch (grants t))
+grants_lose : (t : NodeContext) → NoLoss (sch t) (sch (grants t))
 grants_lose t =
     at_test (λ b. NoLoss (sch t) (sch (if b then grants_next t (first_item (sch t).answered) else t))) (has_free_slot (sch t))
     (λ _. grants_next_lose t (first_item (sch t).answered) refl) (λ _. none_lost (sch t))
@@ -108,7 +108,7 @@ grants_lose t =
 abbrev pub Others : ℕ → ℕ → Type 0
 Others w v = w ≢ v
 
-pub frees_lose : (t : There) (w : ℕ) → NoLossBut (Others w) (sch t) (sch (frees t w))
+pub frees_lose : (t : NodeContext) (w : ℕ) → NoLossBut (Others w) (sch t) (sch (frees t w))
 frees_lose t w =
     let s : Scheduler = without_slot (sch t) w in
     at_test (λ b. NoLossBut (Others w) (sch t) (sch (if b then grants (with_scheduler t s) else t))) (has (sch t).holders w)
@@ -117,7 +117,7 @@ frees_lose t w =
     (but (Others w) s (sch (grants (with_scheduler t s))) (grants_lose (with_scheduler t s))))
     (λ _. but (Others w) (sch t) (sch t) (none_lost (sch t)))
 
-pub asks_lose : (t : There) (w : ℕ) → NoLoss (sch t) (sch (asks_slot t w))
+pub asks_lose : (t : NodeContext) (w : ℕ) → NoLoss (sch t) (sch (asks_slot t w))
 asks_lose t w =
     let s : Scheduler = with_answered (sch t) w in
     at_test (λ b. NoLoss (sch t) (sch (if b then t else grants (with_scheduler t s)))) (has (sch t).holders w || has (sch t).answered w)
@@ -126,7 +126,7 @@ asks_lose t w =
     (record { holders = λ v _ e. e; answered = λ v _ e. inr (list_any-push_left (λ y. y == v) (sch t).answered w e) }) (grants_lose (with_scheduler t s)))
 
 -- whoever asks for a slot has it, or asks for it
-pub asks_gains : (t : There) (w : ℕ) → (has (sch (asks_slot t w)).holders w ≡ true) ⊎ (has (sch (asks_slot t w)).answered w ≡ true)
+pub asks_gains : (t : NodeContext) (w : ℕ) → (has (sch (asks_slot t w)).holders w ≡ true) ⊎ (has (sch (asks_slot t w)).answered w ≡ true)
 asks_gains t w =
     let s : Scheduler = with_answered (sch t) w in
     at_test (λ b. (has (sch t).holders w || has (sch t).answered w) ≡ b →
@@ -136,17 +136,17 @@ asks_gains t w =
     (λ _ e. elim (or_cases (has (sch t).holders w) (has (sch t).answered w) e) [ inl f ↦ inl f | inr f ↦ inr f ])
     (λ _ _. (grants_lose (with_scheduler t s)).answered w tt (has-last (sch t).answered w)) refl
 
-pub forgets_lose : (t : There) (w : ℕ) → NoLossBut (Others w) (sch t) (sch (forgets t w))
+pub forgets_lose : (t : NodeContext) (w : ℕ) → NoLossBut (Others w) (sch t) (sch (forgets t w))
 forgets_lose t w =
     let s : Scheduler = without_worker (sch t) w in
     then_lost (Others w) (sch t) s (sch (frees (with_scheduler t s) w))
     (record { holders = λ v _ e. e; answered = λ v apart e. inr (has-stays (sch t).answered w v apart e) }) (frees_lose (with_scheduler t s) w)
 
-fetched_lose : (t : There) (o : Id) (number w : ℕ) (c : Option Outcome) → NoLoss (sch t) (sch (fetched t o number w c))
+fetched_lose : (t : NodeContext) (o : Id) (number w : ℕ) (c : Option Outcome) → NoLoss (sch t) (sch (fetched t o number w c))
 fetched_lose t o number w None = none_lost (sch t)
 fetched_lose t o number w (Some c) = record { holders = λ v _ e. e; answered = λ v _ e. inr e }
 
-reached_from_lose : (t : There) (w : ℕ) (m : Message) → NoLoss (sch t) (sch (node_reached_from t w m))
+reached_from_lose : (t : NodeContext) (w : ℕ) (m : Message) → NoLoss (sch t) (sch (node_reached_from t w m))
 reached_from_lose t w (Ask a i) = asked_lose t (ask_key a i) (reply_to (sch t) (ask_key a i))
 reached_from_lose t w (Back a) =
     at_test (λ b. NoLoss (sch t) (sch (if b then with_scheduler t (with_idle (sch t) w) else t))) (may_be_idle (sch t) w a)
@@ -168,7 +168,7 @@ reached_from_lose t w (Missing o number m) = none_lost (sch t)
 reached_from_lose t w (Hold e o) = none_lost (sch t)
 reached_from_lose t w (HoldAck e o) = none_lost (sch t)
 
-pub reached_lose : (t : There) (from : Party) (m : Message) → NoLoss (sch t) (sch (node_reached t from m))
+pub reached_lose : (t : NodeContext) (from : Endpoint) (m : Message) → NoLoss (sch t) (sch (node_reached t from m))
 reached_lose t (TheWorker w) m = reached_from_lose t w m
 reached_lose t (TheNode k) m = none_lost (sch t)
 
@@ -212,8 +212,8 @@ turns_after b look next n s t back less turns = record {
 
 -- ---- a worker
 
-module _ (c : Whole) (me n : ℕ) (old : Worker) (there : item_at c.workers me ≡ Some old) where
-  pub record Turns (h : Here) : Type 0 where
+module _ (c : ClusterState) (me n : ℕ) (old : Worker) (there : item_at c.workers me ≡ Some old) where
+  pub record Turns (h : WorkerContext) : Type 0 where
     pub who : h.me ≡ me
     pub home : h.worker.node ≡ n
     pub turns : HasTurn (look_here c me n old there h) n h.there.node.scheduler
@@ -231,7 +231,7 @@ module _ (c : Whole) (me n : ℕ) (old : Worker) (there : item_at c.workers me �
   is_me x y k w same e = let g : ◌≡◌ {A = Option Worker} (Some x) (Some y) = sym (at_me c me n old there x k) ∙ subst (λ v. look x k v ≡ Some y) same e in cc
 
   -- the worker has become y; its turn is what it was, or it has a slot, or it has no turn
-  worker_turns : (h : Here) (y : Worker) → y.node ≡ h.worker.node → (y.is_live ≡ true → h.worker.is_live ≡ true) →
+  worker_turns : (h : WorkerContext) (y : Worker) → y.node ≡ h.worker.node → (y.is_live ≡ true → h.worker.is_live ≡ true) →
       (pace_by y.run ≡ pace_by h.worker.run) ⊎ (has h.there.node.scheduler.holders me ≡ true) ⊎ NoTurn y → Turns h → Turns (with_worker h y)
   worker_turns h y node live now t = record {
     who = t.who;
@@ -273,7 +273,7 @@ module _ (c : Whole) (me n : ℕ) (old : Worker) (there : item_at c.workers me �
       mine_ready w z same at lives ready (inr (inr none)) = absurd (none.goes (ap (λ (u : Worker). pace_by u.run) (is_me y z h.there.opened w same at) ∙ ready))
 
   -- whose turn it isn't gives its slot back
-  pub frees_turns : (h : Here) → NoTurn h.worker → Turns h → Turns (gives_slot_back h)
+  pub frees_turns : (h : WorkerContext) → NoTurn h.worker → Turns h → Turns (gives_slot_back h)
   frees_turns h none t =
       let k : ℕ = (frees h.there h.me).opened in
       record {
@@ -287,7 +287,7 @@ module _ (c : Whole) (me n : ℕ) (old : Worker) (there : item_at c.workers me �
       }
 
   -- whose turn it is anew asks for a slot; of all others it is known
-  pub asks_turns : (h : Here) (before : Worker) → h.me ≡ me → h.worker.node ≡ n → pace_by h.worker.run ≡ GoesOn →
+  pub asks_turns : (h : WorkerContext) (before : Worker) → h.me ≡ me → h.worker.node ≡ n → pace_by h.worker.run ≡ GoesOn →
       HasTurn (look before h.there.opened) n h.there.node.scheduler →
       Turns (asks_for_slot h)
   asks_turns h before who home goes t = record {
@@ -326,10 +326,10 @@ module _ (c : Whole) (me n : ℕ) (old : Worker) (there : item_at c.workers me �
       goes_out : (j : ℕ) → GoesOn ≡ IsOut j → ⊥
       goes_out j e = absurd (cc)
 
-  waits_pace : (h : Here) (run : Run) (y : Id) (f : Option Fetching) → h.worker.run ≡ Some run → run.phase ≡ Waits y f → NoTurn h.worker
+  waits_pace : (h : WorkerContext) (run : Execution) (y : Id) (f : Option Fetching) → h.worker.run ≡ Some run → run.phase ≡ Waits y f → NoTurn h.worker
   waits_pace h run y f e q = rests_no_turn h.worker (ap pace_by e ∙ ap pace_in q)
 
-  asked_turns : (h : Here) (o : Id) (task : OwnTask) (i m : ℕ) → Turns h → Turns (asks_at h o task i m)
+  asked_turns : (h : WorkerContext) (o : Id) (task : OwnTask) (i m : ℕ) → Turns h → Turns (asks_at h o task i m)
   asked_turns h o task i m t =
       let g : Turns (with_task_of h o (record task { progress = AskedAt i m })) =
       worker_turns h (with_task_of h o (record task { progress = AskedAt i m })).worker refl (λ e. e) (inl refl) t in
@@ -356,11 +356,11 @@ module _ (c : Whole) (me n : ℕ) (old : Worker) (there : item_at c.workers me �
         (inl (k.pace ∙ ap pace_by (sym e))) t;
     leaves = λ h run next e _ _ phase _ t. worker_turns h (record h.worker { run = Some next }) refl (λ i. i) (inl (ap pace_in phase ∙ ap pace_by (sym e))) t;
     gets = λ h run content y f e q t.
-        let g : Here = logs (with_run h (with_answer run content)) (Got run.attempt y content) in
+        let g : WorkerContext = logs (with_run h (with_answer run content)) (Got run.attempt y content) in
         asks_turns g h.worker t.who t.home refl t.turns;
     faults = λ h run fault y f e q t.
-        let next : Run = record run { phase = HasFaulted fault } in
-        let g : Here = logs (with_run h next) (Faulted run.attempt y fault) in
+        let next : Execution = record run { phase = HasFaulted fault } in
+        let g : WorkerContext = logs (with_run h next) (Faulted run.attempt y fault) in
         let none : NoTurn g.worker = stopped_no_turn g.worker refl in
         let turned : Turns (with_run h next) = worker_turns h (record h.worker { run = Some next }) refl (λ i. i) (inr (inr none)) t in
         frees_turns g none (record { who = turned.who; home = turned.home; turns = turned.turns });
@@ -387,25 +387,25 @@ module _ (c : Whole) (me n : ℕ) (old : Worker) (there : item_at c.workers me �
   kept = turns_kept T O V
 
   -- an attempt that begins has the slot with which its worker was leased
-  pub push_turns : (h : Here) (a : Attempt) (spec : Birth) → has h.there.node.scheduler.holders me ≡ true → Turns h → Turns (begins_run h a spec)
+  pub push_turns : (h : WorkerContext) (a : Attempt) (spec : Birth) → has h.there.node.scheduler.holders me ≡ true → Turns h → Turns (begins_run h a spec)
   push_turns h a spec slot t = worker_turns h (begins_run h a spec).worker refl (λ i. i) (inr (inl slot)) t
 
   -- so an attempt that is given out
-  pub claim_turns : (h : Here) (j : ℕ) → has h.there.node.scheduler.holders me ≡ true → Turns h → Turns (claim_step h j)
+  pub claim_turns : (h : WorkerContext) (j : ℕ) → has h.there.node.scheduler.holders me ≡ true → Turns h → Turns (claim_step h j)
   claim_turns h j slot t = by_run h.worker.run
     where
-      by_run : (r : Option Run) → Turns (claim_by h j r)
+      by_run : (r : Option Execution) → Turns (claim_by h j r)
       by_run None = t
       by_run (Some run) = worker_turns h (record h.worker { run = Some (record run { phase = Out j }) }) refl (λ i. i) (inr (inl slot)) t
 
   -- the attempt has stopped, whatever comes of it
-  abbrev StoppedHere : Here → Type 0
+  abbrev StoppedHere : WorkerContext → Type 0
   StoppedHere h = pace_by h.worker.run ≡ HasStopped
 
   rests_not_stopped : Rests ≡ HasStopped → ⊥
   rests_not_stopped e = absurd (cc)
 
-  waits_on : (r : Option Run) (run : Run) (y : Id) (f : Option Fetching) → r ≡ Some run → run.phase ≡ Waits y f → pace_by r ≡ HasStopped → ⊥
+  waits_on : (r : Option Execution) (run : Execution) (y : Id) (f : Option Fetching) → r ≡ Some run → run.phase ≡ Waits y f → pace_by r ≡ HasStopped → ⊥
   waits_on r run y f e q p = rests_not_stopped (sym (ap pace_by e ∙ ap pace_in q) ∙ p)
 
   stopped_kept : IsKept T O V AnyPassed StoppedHere
@@ -434,27 +434,27 @@ module _ (c : Whole) (me n : ℕ) (old : Worker) (there : item_at c.workers me �
     back_of = λ h m a _ _ p. p;
   }
 
-  ends_turns : (h : Here) (run : Run) (cs : List Outcome) → Turns h → Turns (ends h run cs)
+  ends_turns : (h : WorkerContext) (run : Execution) (cs : List Outcome) → Turns h → Turns (ends h run cs)
   ends_turns h run cs t =
-      let g : Here = with_phase h run (HasEnded cs) in
-      let held : Here = keeps_contents g run.attempt.object run.attempt.number cs in
+      let g : WorkerContext = with_phase h run (HasEnded cs) in
+      let held : WorkerContext = keeps_contents g run.attempt.object run.attempt.number cs in
       let ended : Turns g = worker_turns h g.worker refl (λ i. i) (inr (inr (stopped_no_turn g.worker refl))) t in
       frees_turns (leaves_if_free held) (stopped_no_turn _ (both StoppedHere stopped_kept refl)) (both Turns kept ended)
     where
-      both : (P : Here → Type 0) (k : IsKept T O V AnyPassed P) → P (with_phase h run (HasEnded cs)) →
+      both : (P : WorkerContext → Type 0) (k : IsKept T O V AnyPassed P) → P (with_phase h run (HasEnded cs)) →
           P (leaves_if_free (keeps_contents (with_phase h run (HasEnded cs)) run.attempt.object run.attempt.number cs))
       both P k p =
           leaves_if_free-kept T O V AnyPassed P k _ (keeps_contents-kept T O V AnyPassed P k (with_phase h run (HasEnded cs)) run.attempt.object run.attempt.number cs p)
 
-  stops_turns : (h : Here) (stop : Stopped) (r : Option Run) → h.worker.run ≡ r → Turns h → Turns (stops_by h stop r)
+  stops_turns : (h : WorkerContext) (stop : Stopped) (r : Option Execution) → h.worker.run ≡ r → Turns h → Turns (stops_by h stop r)
   stops_turns h stop None e t = t
   stops_turns h (AtGet y) (Some run) e t =
-      let g : Here = with_phase h run (Waits y None) in
+      let g : WorkerContext = with_phase h run (Waits y None) in
       needs-kept T O V AnyPassed Turns kept h run y (worker_turns h g.worker refl (λ i. i) (inr (inr (rests_no_turn g.worker refl))) t)
   stops_turns h (AtEnd content) (Some run) e t = ends_turns h run content t
 
   -- an attempt that is out has a slot, until it is committed
-  pub commit_turns : (h : Here) (o : Outcomes) (run : Run) (j : ℕ) → h.worker.run ≡ Some run → run.phase ≡ Out j → h.worker.is_live ≡ true → Turns h →
+  pub commit_turns : (h : WorkerContext) (o : Outcomes) (run : Execution) (j : ℕ) → h.worker.run ≡ Some run → run.phase ≡ Out j → h.worker.is_live ≡ true → Turns h →
       Turns (commit_step h o)
   commit_turns h o run j e out live t = subst (λ r. Turns (commit_by h o r)) (sym e) by_run
     where
@@ -464,9 +464,9 @@ module _ (c : Whole) (me n : ℕ) (old : Worker) (there : item_at c.workers me �
       by_run : Turns (commit_by h o (Some run))
       by_run =
           let es : List Entry = commit_entries run.attempt (next_id_here h) o.births o.prints (stop_of o.stop) in
-          let next : Run = with_outcomes run o in
-          let g : Here = logs_all (with_run h next) es in
+          let next : Execution = with_outcomes run o in
+          let g : WorkerContext = logs_all (with_run h next) es in
           let started : Turns (with_run h next) = worker_turns h (record h.worker { run = Some next }) refl (λ i. i) (inr (inl slot)) t in
-          let borne : Here = bears_all g run.attempt o.births in
+          let borne : WorkerContext = bears_all g run.attempt o.births in
           stops_turns borne o.stop borne.worker.run refl (bears_all-kept T O V AnyPassed Turns kept g run.attempt o.births
           (record { who = started.who; home = started.home; turns = started.turns }))

@@ -6,7 +6,7 @@ use Rattle.event_log.specs.Entries.{NotReady}
 use Rattle.event_log.specs.Rules.{Setting}
 use Rattle.event_log.specs.Words.{attempt}
 use Rattle.event_log.specs.Legal.{opening}
-use Rattle.protocol_laws.specs.of_protocol.Messages.{Ask, Give, Letter, Push, TheNode, TheWorker, Wait, letter}
+use Rattle.protocol_laws.specs.of_protocol.Messages.{Ask, Give, Envelope, Push, TheNode, TheWorker, Wait, envelope}
 use Rattle.protocol_laws.specs.of_protocol.Sets.{object_id}
 use Rattle.protocol_laws.specs.of_protocol_owed.Owed.{RepliesAreMade}
 use Rattle.protocol_laws.specs.of_protocol_owed.Replies.{GiveIsBegun, Happening}
@@ -22,7 +22,7 @@ abbrev pub first_one : Attempt
 first_one = attempt (object_id 1 1) 0
 
 -- on one node of one slot, where these have a slot
-abbrev pub scene : Setting → List Entry → List Letter → List ℕ → Scene
+abbrev pub scene : Setting → List Entry → List Envelope → List ℕ → Scene
 scene s log network holders =
     record {
       setting = s;
@@ -47,22 +47,22 @@ given_log =
     ∷ Opened 2 1
     ∷ []
 
-abbrev pub given_network : List Letter
-given_network = letter (TheWorker 1) (TheNode 1) (Ask first_one 0) ∷ letter (TheNode 1) (TheWorker 1) (Give first_one 0 2) ∷ []
+abbrev pub given_network : List Envelope
+given_network = envelope (TheWorker 1) (TheNode 1) (Ask first_one 0) ∷ envelope (TheNode 1) (TheWorker 1) (Give first_one 0 2) ∷ []
 
--- the Give is delivered, with these entries and letters
-abbrev pub give_comes : Setting → List Entry → List Letter → Happening
-give_comes s entries letters =
+-- the Give is delivered, with these entries and envelopes
+abbrev pub give_comes : Setting → List Entry → List Envelope → Happening
+give_comes s entries envelopes =
     record {
       before = scene s given_log given_network (2 ∷ []);
       event = Deliver 2;
       entries = entries;
-      letters = letters;
+      envelopes = envelopes;
       after = scene s given_log given_network (2 ∷ []);
     }
 
-abbrev pub pushed : List Letter
-pushed = letter (TheWorker 1) (TheWorker 2) (Push first_one one_once) ∷ []
+abbrev pub pushed : List Envelope
+pushed = envelope (TheWorker 1) (TheWorker 2) (Push first_one one_once) ∷ []
 
 -- it is begun and pushed; and altered, without its Push, or without its beginning
 pub record GivesBegin : Type 0 where
@@ -78,7 +78,7 @@ nothing_comes s =
       before = scene s opening [] (1 ∷ []);
       event = Tick 1;
       entries = [];
-      letters = [];
+      envelopes = [];
       after = scene s opening [] (1 ∷ []);
     }
 
@@ -97,8 +97,8 @@ pub record ClaimsAreJudged : Type 0 where
 
 -- ---- a slot
 
-abbrev pub waiting_network : List Letter
-waiting_network = letter (TheWorker 1) (TheNode 1) (Ask first_one 0) ∷ letter (TheNode 1) (TheWorker 1) (Wait first_one 0) ∷ []
+abbrev pub waiting_network : List Envelope
+waiting_network = envelope (TheWorker 1) (TheNode 1) (Ask first_one 0) ∷ envelope (TheNode 1) (TheWorker 1) (Wait first_one 0) ∷ []
 
 -- no slot is free while an ask stands in the queue; worker 1, which may go on, keeps none that it doesn't have
 pub record SlotsAreJudged : Type 0 where

@@ -5,7 +5,7 @@ use Rattle.meaning.specs.Mains.{KeepsMainApart}
 use Rattle.protocol_laws.specs.of_protocol.Nodes.{Node, Scheduler}
 use Rattle.protocol_laws.specs.of_protocol.Sets.{has}
 use Rattle.protocol_laws.specs.of_protocol.Tables.{Worker}
-use Rattle.protocol_laws.specs.of_protocol.Whole.{Whole, node_at, worker_at}
+use Rattle.protocol_laws.specs.of_protocol.Cluster.{ClusterState, node_at, worker_at}
 use Rattle.protocol_laws.specs.Coming.{IsRight}
 use Rattle.protocol_laws.specs.of_protocol_owed.Courses.{GoesOn, IsLeased, IsOut, LivesOn}
 use Rattle.protocol_laws.specs.of_protocol_owed.Runs.{Handing, Running, after_event, after_events, opening_run, seen}
@@ -22,7 +22,7 @@ pub record HasTurn (look : Look) (n : ℕ) (s : Scheduler) : Type 0 where
   pub ready : (w : ℕ) (x : Worker) → look w ≡ Some x → x.node ≡ n → x.is_live ≡ true → pace_by x.run ≡ GoesOn →
       (has s.holders w ≡ true) ⊎ (has s.answered w ≡ true)
 
-abbrev pub KeepsSlots : Whole → Type 0
+abbrev pub KeepsSlots : ClusterState → Type 0
 KeepsSlots c = (n : ℕ) (node : Node) → node_at c n ≡ Some node → HasTurn (worker_at c) n node.scheduler
 
 -- ---- by log and network

@@ -9,7 +9,7 @@ use Rattle.meaning.proofs.BirthLaws.{at_test}
 use Rattle.protocol.specs.Numbered.{item_at}
 use Rattle.protocol.specs.Sets.{has, with_number}
 use Rattle.protocol.specs.Tables.{Object}
-use Rattle.protocol.specs.Steps.{Here, is_own}
+use Rattle.protocol.specs.Steps.{WorkerContext, is_own}
 use Rattle.protocol.specs.Recovery.{counted_from, first_stop, is_lost_at, is_lost_here, made_from, members, members_below, with_lost}
 use Rattle.lineage.specs.Plans.{ArgumentsAreOlder, Ascends, CannotBeRemade, IsLeast, IsPlanned, IsRight, IsRightPlan, NoMemory, Plan, Stop, planned_by}
 
@@ -77,7 +77,7 @@ there_number ks n = at_test (λ b. has ks n ≡ b → has (if b then ks else ks 
 new_number : (ks : List ℕ) (n j : ℕ) → has (with_number ks n) j ≡ true → (has ks j ≡ true) ⊎ (n ≡ j)
 new_number ks n j = at_test (λ b. has (if b then ks else ks ++ n ∷ []) j ≡ true → (has ks j ≡ true) ⊎ (n ≡ j)) (has ks n) (λ _ e. inl e) (λ _ e. has_new ks n j e)
 
-module _ (h : Here) where
+module _ (h : WorkerContext) where
   abbrev lost : Id → Bool
   lost o = is_lost_here h o
 
@@ -236,18 +236,18 @@ module _ (h : Here) where
     }
 
 -- what was planned by a set has the set, which nothing stops; or the first stop of it
-by_plan : (h : Here) (k : ℕ) (ks : List ℕ) (p : Plan) (f : Option Fault) → IsLeast h k ks → first_stop h ks ≡ f → Ok p ≡ planned_by ks f → IsRight h k (Ok p)
+by_plan : (h : WorkerContext) (k : ℕ) (ks : List ℕ) (p : Plan) (f : Option Fault) → IsLeast h k ks → first_stop h ks ≡ f → Ok p ≡ planned_by ks f → IsRight h k (Ok p)
 by_plan h k ks p None least stop e =
     let same : p.serials ≡ ks = ap (λ r. serials_in r) e in
     subst (λ ks. IsLeast h k ks × (first_stop h ks ≡ None)) (sym same) (least, stop)
 by_plan h k ks p (Some f) least stop e = absurd (cc)
 
-by_stop : (h : Here) (k : ℕ) (ks : List ℕ) (g : Fault) (f : Option Fault) → IsLeast h k ks → first_stop h ks ≡ f → Err (CannotBeRemade g) ≡ planned_by ks f →
+by_stop : (h : WorkerContext) (k : ℕ) (ks : List ℕ) (g : Fault) (f : Option Fault) → IsLeast h k ks → first_stop h ks ≡ f → Err (CannotBeRemade g) ≡ planned_by ks f →
     IsRight h k (Err (CannotBeRemade g))
 by_stop h k ks g None least stop e = absurd (cc)
 by_stop h k ks g (Some f) least stop e = (ks, least, stop ∙ ap Some (sym (ap (fault_in g) e)))
 
-pub is_right_plan : (h : Here) (k : ℕ) (r : Result Plan Stop) → IsPlanned h k r → IsRightPlan h k r
+pub is_right_plan : (h : WorkerContext) (k : ℕ) (r : Result Plan Stop) → IsPlanned h k r → IsRightPlan h k r
 is_right_plan h k (Ok p) e older from_one = by_plan h k (members h k) p (first_stop h (members h k)) (are_least h k older from_one) refl e
 is_right_plan h k (Err (CannotBeRemade f)) e older from_one = by_stop h k (members h k) f (first_stop h (members h k)) (are_least h k older from_one) refl e
 is_right_plan h k (Err NoMemory) e older from_one = tt

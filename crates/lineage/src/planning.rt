@@ -10,13 +10,17 @@ use crate::recovery::{Plan, Stop};
 use crate::serials::{add_serial, has_serial, in_order};
 use crate::tables::{is_lost_here, may_try_again};
 use ids::ObjectId;
-use protocol_data::Here;
+use protocol_data::WorkerContext;
 use sequence::Seq;
 use std::alloc::{AllocError, Global};
 use values::{Fault, FaultKind};
 
 /// Adds the serials of those that are lost.
-fn add_lost(here: &Here, objects: &Seq<ObjectId>, serials: &mut Seq<u64>) -> Result<(), AllocError>
+fn add_lost(
+    here: &WorkerContext,
+    objects: &Seq<ObjectId>,
+    serials: &mut Seq<u64>,
+) -> Result<(), AllocError>
     ensures { OnOk result (serials.new ≡ with_lost here.now objects.now serials.old) }
 {
     for object in &objects.items {
@@ -30,7 +34,7 @@ fn add_lost(here: &Here, objects: &Seq<ObjectId>, serials: &mut Seq<u64>) -> Res
 /// Of a member, adds what it is made from and is lost.
 fn add_arguments(
     alloc: Global,
-    here: &Here,
+    here: &WorkerContext,
     serial: u64,
     serials: &mut Seq<u64>,
 ) -> Result<(), AllocError>
@@ -47,7 +51,7 @@ fn add_arguments(
 #[tactic(auto, using(crate::proofs::Counting::down_step, crate::proofs::Counting::down_last))]
 fn add_members_below(
     alloc: Global,
-    here: &Here,
+    here: &WorkerContext,
     serial: u64,
     serials: &mut Seq<u64>,
 ) -> Result<(), AllocError>
@@ -60,7 +64,7 @@ fn add_members_below(
 }
 
 /// The serials of the objects to make again, in birth order.
-fn members(alloc: Global, here: &Here, serial: u64) -> Result<Seq<u64>, AllocError>
+fn members(alloc: Global, here: &WorkerContext, serial: u64) -> Result<Seq<u64>, AllocError>
     ensures { IfOk result (λ all. all ≡ members here.now serial) }
 {
     let mut found = Seq::new(alloc);
@@ -70,7 +74,7 @@ fn members(alloc: Global, here: &Here, serial: u64) -> Result<Seq<u64>, AllocErr
 }
 
 /// Why the object of that serial can't be made again.
-fn stop_at(here: &Here, serial: u64) -> Option<Fault>
+fn stop_at(here: &WorkerContext, serial: u64) -> Option<Fault>
     ensures { result ≡ stop_at here.now serial }
 {
     let owner = here.me;
@@ -87,7 +91,7 @@ fn stop_at(here: &Here, serial: u64) -> Option<Fault>
 }
 
 /// Why one of these can't be made again, the first that can't.
-fn first_stop(here: &Here, serials: &Seq<u64>) -> Option<Fault>
+fn first_stop(here: &WorkerContext, serials: &Seq<u64>) -> Option<Fault>
     ensures { result ≡ first_stop here.now serials.now }
 {
     for serial in &serials.items {
@@ -99,7 +103,7 @@ fn first_stop(here: &Here, serials: &Seq<u64>) -> Option<Fault>
 }
 
 /// What is decided about the own object of that serial.
-fn decide(alloc: Global, here: &Here, serial: u64) -> Result<Plan, Stop>
+fn decide(alloc: Global, here: &WorkerContext, serial: u64) -> Result<Plan, Stop>
     ensures { IsPlanned here.now serial result }
 {
     let serials = members(alloc, here, serial)?;
@@ -118,7 +122,7 @@ fn decide(alloc: Global, here: &Here, serial: u64) -> Result<Plan, Stop>
 /// arguments are references that its caller had when the task was born. Tables that were put together by hand needn't be so; of them the same
 /// steps are promised (`decision`), and no more.
 #[tactic(auto, using(crate::proofs::Least::is_right_plan))]
-pub fn plan(alloc: Global, here: &Here, object: ObjectId) -> Result<Plan, Stop>
+pub fn plan(alloc: Global, here: &WorkerContext, object: ObjectId) -> Result<Plan, Stop>
     ensures decision { IsPlanned here.now object.serial result }
     ensures right { IsRightPlan here.now object.serial result }
 {

@@ -6,10 +6,10 @@ ghost use Rattle.protocol.specs.Numbered.{item_at};
 ghost use Rattle.protocol.specs.Tables.{first_by, has_content, is_lost, is_nowhere, is_wanted, is_whole, may_try_again, task_by, task_in, task_of};
 ghost use Rattle.protocol.specs.Recovery.{is_lost_here};
 
-use held::Origin;
+use held::SharedBirth;
 use ids::ObjectId;
 use number_lists::object_at_number;
-use protocol_data::{Here, Maker, Object, Objects, OwnTask};
+use protocol_data::{Object, ObjectSource, Objects, OwnTask, WorkerContext};
 use task_spec::Birth;
 use worker_steps::{is_pending, object_at};
 
@@ -49,7 +49,7 @@ pub fn has_content(object: &Object) -> bool
 }
 
 /// Whether the own object of that id is lost.
-pub fn is_lost_here(here: &Here, object: ObjectId) -> bool
+pub fn is_lost_here(here: &WorkerContext, object: ObjectId) -> bool
     ensures { result ≡ is_lost_here here.now object }
 {
     match object_at(here, object) {
@@ -59,12 +59,12 @@ pub fn is_lost_here(here: &Here, object: ObjectId) -> bool
 }
 
 /// The task that stands with an object so made.
-fn task_in(maker: &Maker) -> Option<&OwnTask>
-    ensures { MatchOption result (task_in maker.now ≡ None) (λ task. task_in maker.now ≡ Some task.now) }
+fn task_in(source: &ObjectSource) -> Option<&OwnTask>
+    ensures { MatchOption result (task_in source.now ≡ None) (λ task. task_in source.now ≡ Some task.now) }
 {
-    match maker {
-        Maker::WasPut | Maker::Beside(_) => None,
-        Maker::ByTask(task) => Some(task),
+    match source {
+        ObjectSource::WasPut | ObjectSource::Beside(_) => None,
+        ObjectSource::ByTask(task) => Some(task),
     }
 }
 
@@ -75,32 +75,32 @@ fn task_at(objects: &Objects, serial: u64) -> Option<&OwnTask>
     let Some(found) = object_at_number(objects, serial) else {
         return None;
     };
-    task_in(&found.maker)
+    task_in(&found.source)
 }
 
 /// The task that makes an object so made, which may stand with another one of these.
-pub fn task_by<'a>(objects: &'a Objects, maker: &'a Maker) -> Option<&'a OwnTask>
-    ensures { MatchOption result (task_by objects.now maker.now ≡ None) (λ task. task_by objects.now maker.now ≡ Some task.now) }
+pub fn task_by<'a>(objects: &'a Objects, source: &'a ObjectSource) -> Option<&'a OwnTask>
+    ensures { MatchOption result (task_by objects.now source.now ≡ None) (λ task. task_by objects.now source.now ≡ Some task.now) }
 {
-    match maker {
-        Maker::WasPut => None,
-        Maker::ByTask(task) => Some(task),
-        Maker::Beside(first) => task_at(objects, *first),
+    match source {
+        ObjectSource::WasPut => None,
+        ObjectSource::ByTask(task) => Some(task),
+        ObjectSource::Beside(first) => task_at(objects, *first),
     }
 }
 
 /// The serial of the first object of the task that makes the object of that serial; for a put its own.
-pub fn first_by(serial: u64, maker: &Maker) -> u64
-    ensures { result ≡ first_by serial maker.now }
+pub fn first_by(serial: u64, source: &ObjectSource) -> u64
+    ensures { result ≡ first_by serial source.now }
 {
-    match maker {
-        Maker::WasPut | Maker::ByTask(_) => serial,
-        Maker::Beside(first) => *first,
+    match source {
+        ObjectSource::WasPut | ObjectSource::ByTask(_) => serial,
+        ObjectSource::Beside(first) => *first,
     }
 }
 
 /// How many new runs a task allows.
-fn retries_in(spec: &Origin) -> u8
+fn retries_in(spec: &SharedBirth) -> u8
     ensures { result ≡ retries_in spec.now }
 {
     match &*spec.inner {

@@ -4,17 +4,17 @@ ghost use Rattle.std.specs.Prelude.{◌≡◌, ◌++◌, IfOk, List, OnOk, Some,
 ghost use Rattle.std.specs.List.{flat_map};
 ghost use Rattle.values.specs.Values.{content_of};
 ghost use Rattle.event_log.specs.Entries.{Entry as Logged};
-ghost use Rattle.history.specs.Attempts.{AreStatesOf};
+ghost use Rattle.report_text.specs.Attempts.{AreStatesOf};
 ghost use Rattle.log_words.specs.Index.{IsIndexOf};
 ghost use Rattle.lineage_text.specs.Attempts.{attempt_edge, attempt_node, begun_text, content_edges, ended_text, fate_head, fate_tail, fault_edge, fault_tail, faulted_text};
 ghost use Rattle.lineage_text.specs.Attempts.{named_edges, result_edges, task_objects};
 
 use crate::edges::write_named_edges;
 use held::SharedContent;
-use history::{AttemptStates, kind_name};
 use ids::{AttemptId, ObjectId, WorkerId};
 use log_entries::Entry;
 use log_words::{BirthIndex, Contents, objects_at, write_content};
+use report_text::{AttemptStates, kind_name};
 use sequence::Seq;
 use std::alloc::{AllocError, Global};
 use values::{Content, Fault, FaultKind, ids_in};

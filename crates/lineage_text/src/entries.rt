@@ -1,16 +1,16 @@
 // What each entry adds to the graph.
 
 ghost use Rattle.std.specs.Prelude.{◌≡◌, ◌++◌, OnOk, string_bytes};
-ghost use Rattle.history.specs.Attempts.{AreStatesOf};
+ghost use Rattle.report_text.specs.Attempts.{AreStatesOf};
 ghost use Rattle.log_words.specs.Index.{IsIndexOf};
 ghost use Rattle.lineage_text.specs.Entries.{lineage_in, released_text, resolved_head, resolved_text};
 
 use crate::attempts::{write_begun, write_ended, write_fault_tail, write_faulted};
 use crate::births::write_born;
-use history::AttemptStates;
 use ids::ObjectId;
 use log_entries::Entry;
 use log_words::{BirthIndex, Contents};
+use report_text::AttemptStates;
 use std::alloc::{AllocError, Global};
 use values::Fault;
 

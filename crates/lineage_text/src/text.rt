@@ -6,9 +6,9 @@ ghost use Rattle.lineage_text.specs.Entries.{lineage_in};
 ghost use Rattle.lineage_text.specs.Text.{graph_head, lineage_text};
 
 use crate::entries::write_entry;
-use history::AttemptStates;
 use log_entries::Entry;
 use log_words::{BirthIndex, Contents};
+use report_text::AttemptStates;
 use std::alloc::{AllocError, Global};
 
 #[tactic(auto, unfolding(crate::specs::Text::graph_head))]

@@ -6,7 +6,7 @@ use crate::event::Event;
 use crate::refusal::Refusal;
 use held::ids::{AttemptId, NodeId, ObjectId, WorkerId};
 use held::values::Fault;
-use held::{Origin, Printed, SharedContent};
+use held::{Printed, SharedBirth, SharedContent};
 use sequence::Seq;
 use std::alloc::{AllocError, Global};
 
@@ -34,7 +34,7 @@ pub enum Entry {
     Born {
         object: ObjectId,
         attempt: AttemptId,
-        birth: Origin,
+        birth: SharedBirth,
     },
     /// A get of the attempt was answered with the object's content.
     Got {

@@ -8,5 +8,5 @@ mod refusal;
 pub use entry::{Entry, only_content};
 pub use event::Event;
 pub use held::values::Fault;
-pub use held::{Answers, Births, Origin, Printed, Prints, SharedContent};
+pub use held::{Answers, Births, Printed, Prints, SharedBirth, SharedContent};
 pub use refusal::Refusal;

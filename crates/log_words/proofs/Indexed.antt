@@ -5,8 +5,8 @@ use Rattle.std.proofs.Math.Seq.{drop-cons}
 use Rattle.std.proofs.lemmas.Option.{slice_get_read}
 use Rattle.meaning.specs.Values.{Id, Birth}
 use Rattle.meaning.specs.Births.{same_id, birth_at}
-use Rattle.history.specs.of_event_log.Words.{born_in}
-use Rattle.history.specs.of_event_log.Entries.{Entry, Born}
+use Rattle.report_text.specs.of_event_log.Words.{born_in}
+use Rattle.report_text.specs.of_event_log.Entries.{Entry, Born}
 use Rattle.log_words.specs.Index.{birth_in, birth_found, is_born_in}
 
 by_test : (log : List Entry) (k : ℕ) (b : Birth) (r : Option ℕ) (rest : Option Birth) (t : Bool) →

@@ -7,10 +7,10 @@ use Rattle.meaning.specs.Values as meant
 use Rattle.meaning.specs.Values.{Id, others_of, main_birth}
 use Rattle.meaning.specs.Births.{Bearing, same_id, is_made_by, Part, part_of, part_at}
 use Rattle.meaning.proofs.BirthLaws.{same_id-true, at_test, made_owner, made_from, made_below, first_is_made}
-use Rattle.history.specs.of_event_log.Entries.{Entry, Born, main_object}
-use Rattle.history.specs.of_event_log.Words as said
-use Rattle.history.specs.of_event_log.Words.{born_in, main_bearing}
-use Rattle.history.specs.Main.{first}
+use Rattle.report_text.specs.of_event_log.Entries.{Entry, Born, main_object}
+use Rattle.report_text.specs.of_event_log.Words as said
+use Rattle.report_text.specs.of_event_log.Words.{born_in, main_bearing}
+use Rattle.report_text.specs.Main.{first}
 use Rattle.log_words.specs.Tasks.{first_or, task_in, task_of}
 
 is_same : (p o : Id) → p.owner ≡ o.owner → p.serial ≡ o.serial → same_id p o ≡ true

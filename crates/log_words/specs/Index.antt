@@ -6,8 +6,8 @@ use Rattle.indexmap.specs.IndexMap.{IndexMap}
 use Rattle.task_spec.specs.Births.{birth_of}
 use Rattle.meaning.specs.Values.{Id, Birth, main_birth}
 use Rattle.meaning.specs.Births.{same_id, birth_at}
-use Rattle.history.specs.of_event_log.Entries.{Entry, Born}
-use Rattle.history.specs.of_event_log.Words.{born_in}
+use Rattle.report_text.specs.of_event_log.Entries.{Entry, Born}
+use Rattle.report_text.specs.of_event_log.Words.{born_in}
 use Rattle.log_words.specs.declared.births.BirthIndex.{BirthIndex}
 
 -- the birth that stands at a place

@@ -6,5 +6,5 @@ pub mod Index
 pub mod Told
 pub mod Ids
 pub mod Tasks
-pub use Rattle.history.specs.of_event_log as of_event_log
-pub use Rattle.history.specs as of_history
+pub use Rattle.report_text.specs.of_event_log as of_event_log
+pub use Rattle.report_text.specs as of_report_text

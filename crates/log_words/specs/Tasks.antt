@@ -4,7 +4,7 @@ use Rattle.std.specs.List.{flat_map}
 use Rattle.report.specs.ValueTexts.{id_text}
 use Rattle.meaning.specs.Values.{Id, Birth}
 use Rattle.meaning.specs.Births.{Bearing, is_made_by, Part, part_at, objects_in}
-use Rattle.history.specs.of_event_log.Entries.{Entry, Born}
+use Rattle.report_text.specs.of_event_log.Entries.{Entry, Born}
 
 abbrev pub first_or : Id → Option Part → Id
 first_or o None = o

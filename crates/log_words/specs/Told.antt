@@ -1,7 +1,7 @@
 -- What has been told when an entry comes.
 use Rattle.std.specs.Prelude.{ℕ, ◌+◌, Bool, if◌then◌else◌, List, [], ◌++◌}
-use Rattle.history.specs.of_event_log.Entries.{Entry, In}
-use Rattle.history.specs.of_event_log.Events.{claim_in}
+use Rattle.report_text.specs.of_event_log.Entries.{Entry, In}
+use Rattle.report_text.specs.of_event_log.Events.{claim_in}
 use Rattle.log_words.specs.declared.told.Told.{Told as CodeTold}
 
 -- how many events came, and the workers to which jobs were given, by job

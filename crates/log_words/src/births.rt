@@ -6,8 +6,8 @@ ghost use Rattle.meaning.specs.Values.{Id};
 ghost use Rattle.task_spec.specs.Births.{birth_of};
 ghost use Rattle.meaning.specs.Values.{main_birth};
 ghost use Rattle.meaning.specs.Births.{same_id, birth_at};
-ghost use Rattle.history.specs.of_event_log.Entries.{main_object};
-ghost use Rattle.history.specs.of_event_log.Words.{births};
+ghost use Rattle.report_text.specs.of_event_log.Entries.{main_object};
+ghost use Rattle.report_text.specs.of_event_log.Words.{births};
 ghost use Rattle.log_words.specs.Index.{birth_in, found, is_born_in, AreIndexed, IsIndexOf};
 
 use ids::ObjectId;

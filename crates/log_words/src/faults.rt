@@ -3,7 +3,7 @@
 ghost use Rattle.std.specs.Prelude.{◌≡◌, ◌++◌, OnOk, string_bytes};
 ghost use Rattle.log_words.specs.Faults.{kind_words, fault_words};
 
-use history::kind_name;
+use report_text::kind_name;
 use std::alloc::AllocError;
 use values::{Fault, FaultKind};
 

@@ -7,8 +7,8 @@ ghost use Rattle.meaning.specs.Values.{others_of};
 ghost use Rattle.meaning.specs.Births.{is_made_by, objects_at, objects_with};
 ghost use Rattle.meaning.specs.Runs.{ids_from, past};
 ghost use Rattle.task_spec.specs.Births.{birth_of};
-ghost use Rattle.history.specs.of_event_log.Words.{births};
-ghost use Rattle.history.specs.Main.{first};
+ghost use Rattle.report_text.specs.of_event_log.Words.{births};
+ghost use Rattle.report_text.specs.Main.{first};
 ghost use Rattle.log_words.specs.Index.{IsIndexOf};
 ghost use Rattle.log_words.specs.Tasks.{listed_text, objects_made, objects_text, other_object, task_in, task_of};
 

@@ -1,7 +1,7 @@
 // What has been told when an entry comes.
 
 ghost use Rattle.std.specs.Prelude.{◌≡◌, ◌+◌, ◌++◌, ◌<◌, ◌≤◌, ◌^◌, OnOk, [], if◌then◌else◌, drop};
-ghost use Rattle.history.specs.of_event_log.Events.{claim_in, from_one, refused_next};
+ghost use Rattle.report_text.specs.of_event_log.Events.{claim_in, from_one, refused_next};
 ghost use Rattle.log_words.specs.Told.{nothing_told, told_after, told_of};
 
 use ids::WorkerId;

@@ -5,13 +5,13 @@ use Rattle.meaning.specs.Values.{Id}
 use Rattle.event_log.specs.Entries.{Attempt, Begun, Claim, Commit, Ended, Entry, Faulted, Got, In, KillNode, Released}
 use Rattle.event_log.specs.Events.{from_one, refused_next}
 use Rattle.event_log.specs.Words.{same_attempt}
-use Rattle.protocol_data.specs.declared.job.Given.{Given}
+use Rattle.protocol_data.specs.declared.job.JobRecord.{JobRecord}
 use Rattle.why_text.specs.Moments.{Moment, first_moment, moment_after, when_text}
 use Rattle.main_text.specs.declared.happenings.Happening.{Happening}
 use Rattle.main_text.specs.declared.happenings.Happening.TheVariants.{Begins, Claims, Commits, Gets, NodeDies, Releases, Stops}
 
 -- the job was given to the worker
-abbrev pub is_given_to : ℕ → Option Given → Bool
+abbrev pub is_given_to : ℕ → Option JobRecord → Bool
 is_given_to w None = false
 is_given_to w (Some g) = g.worker == w
 
@@ -36,7 +36,7 @@ abbrev pub is_claim : ℕ → Entry → Bool
 is_claim w (In (Claim v) seat) = v == w
 is_claim w _ = false
 
-abbrev pub is_commit : List Given → ℕ → Entry → Bool
+abbrev pub is_commit : List JobRecord → ℕ → Entry → Bool
 is_commit jobs w (In (Commit j) seat) = is_given_to w (from_one jobs j)
 is_commit jobs w _ = false
 
@@ -45,7 +45,7 @@ is_node_death n (In (KillNode m) seat) = m == n
 is_node_death n _ = false
 
 -- it happens with the entry; `jobs` are those that were given out
-abbrev pub happens : List Given → Happening → Entry → Bool
+abbrev pub happens : List JobRecord → Happening → Entry → Bool
 happens jobs (Begins a) x = is_beginning a x
 happens jobs (Gets a) x = is_answer a x
 happens jobs (Stops a) x = is_stop a x
@@ -55,19 +55,19 @@ happens jobs (Commits w) x = is_commit jobs w x
 happens jobs (NodeDies n) x = is_node_death n x
 
 -- a refused event did nothing
-abbrev pub takes_place : List Given → Happening → Entry → Bool → Bool
+abbrev pub takes_place : List JobRecord → Happening → Entry → Bool → Bool
 takes_place jobs h x refused = if refused then false else happens jobs h x
 
 abbrev pub later : Bool → Moment → Option Moment → Option Moment
 later happened m last = if happened then Some m else last
 
 -- when it happened last, where `m` is the moment before these entries, and `last` when it did before
-abbrev pub latest_from : List Given → List ℕ → Happening → Moment → Option Moment → List Entry → Option Moment
+abbrev pub latest_from : List JobRecord → List ℕ → Happening → Moment → Option Moment → List Entry → Option Moment
 latest_from jobs lines h m last [] = last
 latest_from jobs lines h m last (x ∷ rest) =
     latest_from jobs lines h (moment_after lines m x) (later (takes_place jobs h x (refused_next rest)) (moment_after lines m x) last) rest
 
-unfoldable pub latest : List Given → List ℕ → List Entry → Happening → Option Moment
+unfoldable pub latest : List JobRecord → List ℕ → List Entry → Happening → Option Moment
 latest jobs lines log h = latest_from jobs lines h first_moment None log
 
 abbrev pub when_some : Option Moment → List ℕ
@@ -75,5 +75,5 @@ when_some None = []
 when_some (Some m) = when_text m
 
 -- in event 6 (kill 2, line 2)
-unfoldable pub when_last : List Given → List ℕ → List Entry → Happening → List ℕ
+unfoldable pub when_last : List JobRecord → List ℕ → List Entry → Happening → List ℕ
 when_last jobs lines log h = when_some (latest jobs lines log h)

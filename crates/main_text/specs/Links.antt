@@ -8,16 +8,16 @@ use Rattle.meaning.specs.Births.{Bearing, birth_at}
 use Rattle.event_log.specs.Entries.{Attempt, Claim, Commit, Deliver, Entry, Event, Kill, Notice, NoticeNode, Tick}
 use Rattle.event_log.specs.Events.{from_one}
 use Rattle.event_log.specs.Words.{births}
-use Rattle.history.specs.Texts.{event_text}
+use Rattle.report_text.specs.Texts.{event_text}
 use Rattle.log_words.specs.declared.contents.Contents.{Contents}
 use Rattle.log_words.specs.Calls.{birth_text}
 use Rattle.log_words.specs.Tasks.{task_of}
 use Rattle.log_text.specs.Attempts.{named_text}
 use Rattle.message_text.specs.Messages.{kind_text}
-use Rattle.protocol_data.specs.declared.message.Letter.{Letter}
-use Rattle.protocol_data.specs.declared.message.Party.{Party}
-use Rattle.protocol_data.specs.declared.message.Party.TheVariants.{TheNode, TheWorker}
-use Rattle.protocol_data.specs.declared.whole.Whole.{Whole}
+use Rattle.protocol_data.specs.declared.message.Envelope.{Envelope}
+use Rattle.protocol_data.specs.declared.message.Endpoint.{Endpoint}
+use Rattle.protocol_data.specs.declared.message.Endpoint.TheVariants.{TheNode, TheWorker}
+use Rattle.protocol_data.specs.declared.cluster_state.ClusterState.{ClusterState}
 use Rattle.waits.specs.declared.link.Link.{Link}
 use Rattle.waits.specs.declared.link.Link.TheVariants.{AskedFor, CanGoOn, FetchesFor, HasJob, HasStopped, HoldsBack, IsDead, KeepsSlot}
 use Rattle.waits.specs.declared.link.Link.TheVariants.{LacksSlot, NodeUntold, Resting, RunsAt, UnderWay, Untold, WaitsFor, WasReleased}
@@ -50,7 +50,7 @@ abbrev pub ready_text : ℕ → List ℕ
 ready_text w = worker_text w ++ (codes " is ready" ++ remedy_text (Claim w))
 
 -- w3 took job 4 in event 12 (claim 3, line 5): commit 4 would let it go on.
-abbrev pub job_text : List Entry → List ℕ → Whole → ℕ → ℕ → List ℕ
+abbrev pub job_text : List Entry → List ℕ → ClusterState → ℕ → ℕ → List ℕ
 job_text log lines c w j =
     worker_text w ++ (codes " took job " ++ (decimal j ++ (when_last c.jobs lines log (Claims w) ++ remedy_text (Commit j))))
 
@@ -66,7 +66,7 @@ workers_text [] = codes "nobody"
 workers_text (w ∷ ws) = worker_text w ++ others_text ws
 
 -- w1 waits for a slot of n1, taken by w2, w4.
-abbrev pub slot_text : Whole → ℕ → ℕ → List ℕ
+abbrev pub slot_text : ClusterState → ℕ → ℕ → List ℕ
 slot_text c w n =
     worker_text w ++ (codes " waits for a slot of " ++ (node_text n ++ (codes ", taken by " ++ (workers_text (holders_at c n) ++ codes ".\n"))))
 
@@ -90,22 +90,22 @@ made_by how births o task = id_text o ++ (birth_note how (birth_at births task) 
 unfoldable pub made_text : Contents → List Bearing → Id → List ℕ
 made_text how births o = made_by how births o (task_of births o)
 
-unfoldable pub stopped_text : List Entry → List ℕ → Whole → ℕ → Attempt → List ℕ
+unfoldable pub stopped_text : List Entry → List ℕ → ClusterState → ℕ → Attempt → List ℕ
 stopped_text log lines c w a = named_text (births log) a ++ (codes " stopped" ++ when_last c.jobs lines log (Commits w))
 
 -- a1.0#0 (main) stopped in event 8 (commit 3, line 4), and waits for o1.2: remote(2) inc(get o1.1, 5).
-abbrev pub wait_text : Contents → List Entry → List ℕ → Whole → ℕ → Attempt → Id → List ℕ
+abbrev pub wait_text : Contents → List Entry → List ℕ → ClusterState → ℕ → Attempt → Id → List ℕ
 wait_text how log lines c w a o = stopped_text log lines c w a ++ (codes ", and waits for " ++ (made_text how (births log) o ++ codes ".\n"))
 
 -- w2 asked n2 for a copy.
 abbrev pub copy_text : ℕ → ℕ → List ℕ
 copy_text w n = worker_text w ++ (codes " asked " ++ (node_text n ++ codes " for a copy.\n"))
 
-abbrev pub fetch_text : Contents → List Entry → List ℕ → Whole → ℕ → Attempt → Id → ℕ → List ℕ
+abbrev pub fetch_text : Contents → List Entry → List ℕ → ClusterState → ℕ → Attempt → Id → ℕ → List ℕ
 fetch_text how log lines c w a o n = wait_text how log lines c w a o ++ copy_text w n
 
 -- a1.2#0 (inc) ended in event 13 (commit 2, line 5), which w1 does not know.
-abbrev pub end_text : List Entry → List ℕ → Whole → Attempt → List ℕ
+abbrev pub end_text : List Entry → List ℕ → ClusterState → Attempt → List ℕ
 end_text log lines c a =
     named_text (births log) a
     ++ (codes " ended" ++ (when_last c.jobs lines log (Stops a) ++ (codes ", which " ++ (worker_text a.object.owner ++ codes " does not know.\n"))))
@@ -126,27 +126,27 @@ ask_text log a n =
     ++ (codes " has not begun: " ++ (worker_text a.object.owner ++ (codes " asked " ++ (node_text n ++ codes " for a worker.\n"))))
 
 -- a1.2#1 (inc) began on w3 in event 10 (deliver 5, line 4), since w2 died in event 6 (kill 2, line 2).
-abbrev pub run_text : List Entry → List ℕ → Whole → Attempt → ℕ → List ℕ
+abbrev pub run_text : List Entry → List ℕ → ClusterState → Attempt → ℕ → List ℕ
 run_text log lines c a v =
     named_text (births log) a
     ++ (codes " began on "
     ++ (worker_text v ++ (when_last c.jobs lines log (Begins a) ++ (again_note (births log) lines log a ++ codes ".\n"))))
 
-abbrev pub party_text : Party → List ℕ
+abbrev pub party_text : Endpoint → List ℕ
 party_text (TheWorker w) = worker_text w
 party_text (TheNode n) = node_text n
 
-abbrev pub letter_text : Letter → List ℕ
-letter_text l = codes " (" ++ (kind_text l.message ++ (codes ", from " ++ (party_text l.sender ++ (codes " to " ++ (party_text l.receiver ++ codes ")")))))
+abbrev pub envelope_text : Envelope → List ℕ
+envelope_text l = codes " (" ++ (kind_text l.message ++ (codes ", from " ++ (party_text l.sender ++ (codes " to " ++ (party_text l.receiver ++ codes ")")))))
 
-abbrev pub letter_note : Option Letter → List ℕ
-letter_note None = []
-letter_note (Some l) = letter_text l
+abbrev pub envelope_note : Option Envelope → List ℕ
+envelope_note None = []
+envelope_note (Some l) = envelope_text l
 
 -- Message 5 (Ask, from w1 to n1) has not arrived: deliver 5 would let it go on.
-abbrev pub message_text : Whole → ℕ → List ℕ
+abbrev pub message_text : ClusterState → ℕ → List ℕ
 message_text c k =
-    codes "Message " ++ (decimal k ++ (letter_note (from_one c.network k) ++ (codes " has not arrived" ++ remedy_text (Deliver k))))
+    codes "Message " ++ (decimal k ++ (envelope_note (from_one c.network k) ++ (codes " has not arrived" ++ remedy_text (Deliver k))))
 
 unfoldable pub untold_note : ℕ → List ℕ
 untold_note w = codes ", and " ++ (worker_text w ++ codes " has not been told")
@@ -157,12 +157,12 @@ untold_text log lines w v =
     worker_text v ++ (codes " died" ++ (death_when log lines v ++ (untold_note w ++ remedy_text (Notice w v))))
 
 -- n2 died in event 6 (kill-node 2, line 2), and w1 has not been told: notice-node 1 2 would let it go on.
-abbrev pub node_untold_text : List Entry → List ℕ → Whole → ℕ → ℕ → List ℕ
+abbrev pub node_untold_text : List Entry → List ℕ → ClusterState → ℕ → ℕ → List ℕ
 node_untold_text log lines c w n =
     node_text n ++ (codes " died" ++ (when_last c.jobs lines log (NodeDies n) ++ (untold_note w ++ remedy_text (NoticeNode w n))))
 
 -- w2 released o2.1 in event 9 (notice 2 3, line 4), and tells nobody of it: no event by itself lets it go on.
-abbrev pub released_text : List Entry → List ℕ → Whole → Id → List ℕ
+abbrev pub released_text : List Entry → List ℕ → ClusterState → Id → List ℕ
 released_text log lines c o =
     worker_text o.owner
     ++ (codes " released "
@@ -172,7 +172,7 @@ released_text log lines c o =
 abbrev pub rest_text : ℕ → List ℕ
 rest_text w = codes "Nothing that " ++ (worker_text w ++ (codes " asked for is under way: " ++ (event_text (Tick w) ++ codes " would ask again.\n")))
 
-abbrev pub link_text : Contents → List Entry → List ℕ → Whole → Link → List ℕ
+abbrev pub link_text : Contents → List Entry → List ℕ → ClusterState → Link → List ℕ
 link_text how log lines c (IsDead w) = dead_text log lines w
 link_text how log lines c (CanGoOn w) = ready_text w
 link_text how log lines c (HasJob w j) = job_text log lines c w j
@@ -190,5 +190,5 @@ link_text how log lines c (NodeUntold w n) = node_untold_text log lines c w n
 link_text how log lines c (WasReleased o) = released_text log lines c o
 link_text how log lines c (Resting w) = rest_text w
 
-abbrev pub links_text : Contents → List Entry → List ℕ → Whole → List Link → List ℕ
+abbrev pub links_text : Contents → List Entry → List ℕ → ClusterState → List Link → List ℕ
 links_text how log lines c links = flat_map (link_text how log lines c) links

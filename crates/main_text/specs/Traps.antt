@@ -6,9 +6,9 @@ use Rattle.meaning.specs.Values.{Broken, DivZero, Id, Index, Loop, Outcome, Over
 use Rattle.report.specs.MainLines.{trap_name}
 use Rattle.event_log.specs.Entries.{Attempt, Ended, Entry, Got}
 use Rattle.event_log.specs.Words.{births, same_attempt}
-use Rattle.history.specs.Main.{first}
+use Rattle.report_text.specs.Main.{first}
 use Rattle.log_text.specs.Attempts.{named_text}
-use Rattle.protocol_data.specs.declared.job.Given.{Given}
+use Rattle.protocol_data.specs.declared.job.JobRecord.{JobRecord}
 use Rattle.log_words.specs.declared.contents.Contents.{Contents}
 use Rattle.why_text.specs.Again.{runner_of}
 pub use Rattle.trap_sources.specs.Chains.{trapped_of}
@@ -31,7 +31,7 @@ runner_note None = []
 runner_note (Some w) = codes " on " ++ worker_text w
 
 -- a1.2#0 (f) began on w3 in event 10 (deliver 5, line 4), and ended with the trap in event 15 (commit 4, line 8).
-unfoldable pub run_text : List Given → List Entry → List ℕ → Attempt → List ℕ
+unfoldable pub run_text : List JobRecord → List Entry → List ℕ → Attempt → List ℕ
 run_text jobs log lines a =
     named_text (births log) a
     ++ (codes " began"
@@ -76,21 +76,21 @@ own_text log a =
     ++ (codes " trapped in its own code, " ++ (behind_text (answer_count a log) ++ (trap_note (trap_ended log a) ++ codes ".\n")))
 
 -- a1.0#0 (main) got a trap in event 19 (deliver 11, line 9), that of o1.2: remote(2) f(get o1.1, 5).
-unfoldable pub trap_text : Contents → List Given → List Entry → List ℕ → Attempt → Id → List ℕ
+unfoldable pub trap_text : Contents → List JobRecord → List Entry → List ℕ → Attempt → Id → List ℕ
 trap_text how jobs log lines a y =
     named_text (births log) a
     ++ (codes " got a trap" ++ (when_last jobs lines log (Gets a) ++ (codes ", that of " ++ (made_text how (births log) y ++ codes ".\n"))))
 
 -- an attempt that ended with the trap, and what is told of it behind that
-abbrev pub made_step : List Given → List Entry → List ℕ → (Attempt → List ℕ) → Option Attempt → List ℕ
+abbrev pub made_step : List JobRecord → List Entry → List ℕ → (Attempt → List ℕ) → Option Attempt → List ℕ
 made_step jobs log lines rest None = []
 made_step jobs log lines rest (Some b) = run_text jobs log lines b ++ rest b
 
-abbrev pub trap_step : Contents → List Given → List Entry → List ℕ → (Attempt → List ℕ) → Attempt → Option Id → List ℕ
+abbrev pub trap_step : Contents → List JobRecord → List Entry → List ℕ → (Attempt → List ℕ) → Attempt → Option Id → List ℕ
 trap_step how jobs log lines rest a None = own_text log a
 trap_step how jobs log lines rest a (Some y) = trap_text how jobs log lines a y ++ made_step jobs log lines rest (trapped_of log y)
 
 -- from that attempt to the first one whose own code trapped, so many at most; `how` says whether long lists are cut
-unfoldable pub traps_text : Contents → List Given → List Entry → List ℕ → ℕ → Attempt → List ℕ
+unfoldable pub traps_text : Contents → List JobRecord → List Entry → List ℕ → ℕ → Attempt → List ℕ
 traps_text how jobs log lines zero a = []
 traps_text how jobs log lines (suc n) a = trap_step how jobs log lines (traps_text how jobs log lines n) a (trap_got log a)

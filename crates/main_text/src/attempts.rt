@@ -11,13 +11,13 @@ ghost use Rattle.main_text.specs.Links.{made_by, made_text, result_note};
 ghost use Rattle.main_text.specs.Links.{run_text, stopped_text};
 ghost use Rattle.main_text.specs.Links.{wait_text};
 
+use crate::endpoints::{write_node, write_owner, write_owner_of, write_worker};
 use crate::happenings::{Happening, write_when_last};
-use crate::parties::{write_node, write_owner, write_owner_of, write_worker};
 use ids::{AttemptId, NodeId, ObjectId, WorkerId};
 use log_entries::Entry;
 use log_text::write_named;
 use log_words::{BirthIndex, Contents, task_of, write_birth};
-use protocol_data::Whole;
+use protocol_data::ClusterState;
 use std::alloc::{AllocError, Global};
 use task_spec::Birth;
 use why_text::write_again;
@@ -85,7 +85,7 @@ fn write_stopped(
     index: &BirthIndex,
     log: &[Entry],
     lines: &[usize],
-    whole: &Whole,
+    whole: &ClusterState,
     worker: WorkerId,
     attempt: AttemptId,
 ) -> Result<(), AllocError>
@@ -105,7 +105,7 @@ pub fn write_wait(
     index: &BirthIndex,
     log: &[Entry],
     lines: &[usize],
-    whole: &Whole,
+    whole: &ClusterState,
     worker: WorkerId,
     attempt: AttemptId,
     object: ObjectId,
@@ -137,7 +137,7 @@ pub fn write_fetch(
     index: &BirthIndex,
     log: &[Entry],
     lines: &[usize],
-    whole: &Whole,
+    whole: &ClusterState,
     worker: WorkerId,
     attempt: AttemptId,
     object: ObjectId,
@@ -159,7 +159,7 @@ pub fn write_end(
     index: &BirthIndex,
     log: &[Entry],
     lines: &[usize],
-    whole: &Whole,
+    whole: &ClusterState,
     attempt: AttemptId,
 ) -> Result<(), AllocError>
     ensures { IsIndexOf index.now log.now → OnOk result
@@ -224,7 +224,7 @@ pub fn write_run(
     index: &BirthIndex,
     log: &[Entry],
     lines: &[usize],
-    whole: &Whole,
+    whole: &ClusterState,
     attempt: AttemptId,
     worker: WorkerId,
 ) -> Result<(), AllocError>

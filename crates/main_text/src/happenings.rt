@@ -10,7 +10,7 @@ ghost use Rattle.main_text.specs.Happenings.{is_release, is_stop, later, latest,
 use ids::{AttemptId, NodeId, ObjectId, WorkerId};
 use log_entries::{Entry, Event};
 use log_words::is_refusal_at;
-use protocol_data::{Given, Whole};
+use protocol_data::{ClusterState, JobRecord};
 use std::alloc::AllocError;
 use why_text::{Moment, write_when};
 
@@ -34,7 +34,7 @@ pub enum Happening {
 }
 
 /// Whether the job of that number was given to the worker.
-fn is_given_to(jobs: &[Given], worker: WorkerId, job: u64) -> bool
+fn is_given_to(jobs: &[JobRecord], worker: WorkerId, job: u64) -> bool
     ensures { result ≡ is_given_to worker (from_one jobs.now job) }
 {
     if job == 0 {
@@ -99,7 +99,7 @@ fn is_claim(worker: WorkerId, entry: &Entry) -> bool
     }
 }
 
-fn is_commit(jobs: &[Given], worker: WorkerId, entry: &Entry) -> bool
+fn is_commit(jobs: &[JobRecord], worker: WorkerId, entry: &Entry) -> bool
     ensures { result ≡ is_commit jobs.now worker entry.now }
 {
     match entry {
@@ -124,7 +124,7 @@ fn is_node_death(node: NodeId, entry: &Entry) -> bool
 }
 
 /// Whether the entry is what happens; `jobs` are those that were given out, by number.
-fn happens(jobs: &[Given], happening: &Happening, entry: &Entry) -> bool
+fn happens(jobs: &[JobRecord], happening: &Happening, entry: &Entry) -> bool
     ensures { result ≡ happens jobs.now happening.now entry.now }
 {
     match happening {
@@ -139,7 +139,7 @@ fn happens(jobs: &[Given], happening: &Happening, entry: &Entry) -> bool
 }
 
 /// Whether it happens with the entry, where that isn't an event that is refused.
-fn takes_place(jobs: &[Given], happening: &Happening, entry: &Entry, is_refused: bool) -> bool
+fn takes_place(jobs: &[JobRecord], happening: &Happening, entry: &Entry, is_refused: bool) -> bool
     ensures { result ≡ takes_place jobs.now happening.now entry.now is_refused }
 {
     if is_refused {
@@ -159,7 +159,12 @@ fn later(happened: bool, moment: &Moment, last: Option<Moment>) -> Option<Moment
 
 /// When it happened last; `jobs` are those that were given out. A refused event did nothing.
 #[tactic(auto, unfolding(crate::specs::Happenings::latest))]
-fn latest(jobs: &[Given], lines: &[usize], log: &[Entry], happening: &Happening) -> Option<Moment>
+fn latest(
+    jobs: &[JobRecord],
+    lines: &[usize],
+    log: &[Entry],
+    happening: &Happening,
+) -> Option<Moment>
     ensures { option_map moment_of result ≡ latest jobs.now lines.now log.now happening.now }
 {
     let mut moment = Moment::first();
@@ -190,7 +195,7 @@ pub fn write_when_some(text: &mut String, moment: Option<Moment>) -> Result<(), 
 #[tactic(auto, unfolding(crate::specs::Happenings::when_last))]
 pub fn write_when_last(
     text: &mut String,
-    whole: &Whole,
+    whole: &ClusterState,
     lines: &[usize],
     log: &[Entry],
     happening: &Happening,

@@ -2,13 +2,13 @@
 #![tactic(auto)]
 
 mod attempts;
+mod endpoints;
 mod happenings;
 mod links;
-mod parties;
 mod text;
 mod traps;
 
+pub use endpoints::{write_node, write_worker, write_workers};
 pub use links::write_links;
-pub use parties::{write_node, write_worker, write_workers};
 pub use text::main_text;
 pub use traps::write_own;

@@ -5,20 +5,20 @@ ghost use Rattle.event_log.specs.Events.{from_one};
 ghost use Rattle.log_words.specs.Index.{IsIndexOf};
 ghost use Rattle.waits.specs.Tables.{holders_at};
 ghost use Rattle.main_text.specs.Links.{dead_text, death_when, job_text, kept_text};
-ghost use Rattle.main_text.specs.Links.{letter_note, letter_text, link_text, links_text, message_text, node_untold_text};
+ghost use Rattle.main_text.specs.Links.{envelope_note, envelope_text, link_text, links_text, message_text, node_untold_text};
 ghost use Rattle.main_text.specs.Links.{ready_text, released_text, remedy_text, rest_text, slot_text, untold_note};
 ghost use Rattle.main_text.specs.Links.{untold_text, workers_text};
 
 use crate::attempts::{write_ask, write_end, write_fetch, write_hold, write_run, write_wait};
+use crate::endpoints::{write_endpoint, write_node, write_owner, write_worker, write_workers};
 use crate::happenings::{Happening, write_when_last, write_when_some};
-use crate::parties::{write_node, write_owner, write_party, write_worker, write_workers};
 use ids::{NodeId, ObjectId, WorkerId};
 use log_entries::{Entry, Event};
 use log_words::{BirthIndex, Contents};
 use message_text::message_kind;
-use protocol_data::{Letter, Whole};
+use protocol_data::{ClusterState, Envelope};
 use std::alloc::{AllocError, Global};
-use waits::{Link, holders_at, letter_at};
+use waits::{Link, envelope_at, holders_at};
 use why_text::death_of;
 
 /// Writes the event that would let it go on.
@@ -71,7 +71,7 @@ fn write_job(
     text: &mut String,
     log: &[Entry],
     lines: &[usize],
-    whole: &Whole,
+    whole: &ClusterState,
     worker: WorkerId,
     job: u64,
 ) -> Result<(), AllocError>
@@ -86,7 +86,7 @@ fn write_job(
 }
 
 /// Writes who has a slot of the node.
-fn write_holders(text: &mut String, whole: &Whole, node: NodeId) -> Result<(), AllocError>
+fn write_holders(text: &mut String, whole: &ClusterState, node: NodeId) -> Result<(), AllocError>
     ensures { OnOk result (string_bytes text.new ≡ string_bytes text.old ++ workers_text (holders_at whole.now node)) }
 {
     let holders = holders_at(whole, node);
@@ -95,7 +95,7 @@ fn write_holders(text: &mut String, whole: &Whole, node: NodeId) -> Result<(), A
 
 fn write_slot(
     text: &mut String,
-    whole: &Whole,
+    whole: &ClusterState,
     worker: WorkerId,
     node: NodeId,
 ) -> Result<(), AllocError>
@@ -118,32 +118,32 @@ fn write_kept(text: &mut String, worker: WorkerId) -> Result<(), AllocError>
     write_remedy(text, Event::Kill(worker))
 }
 
-fn write_letter(text: &mut String, letter: &Letter) -> Result<(), AllocError>
-    ensures { OnOk result (string_bytes text.new ≡ string_bytes text.old ++ letter_text letter.now) }
+fn write_envelope(text: &mut String, envelope: &Envelope) -> Result<(), AllocError>
+    ensures { OnOk result (string_bytes text.new ≡ string_bytes text.old ++ envelope_text envelope.now) }
 {
     text.push_str(" (")?;
-    text.push_str(message_kind(&letter.message))?;
+    text.push_str(message_kind(&envelope.message))?;
     text.push_str(", from ")?;
-    write_party(text, letter.sender)?;
+    write_endpoint(text, envelope.sender)?;
     text.push_str(" to ")?;
-    write_party(text, letter.receiver)?;
+    write_endpoint(text, envelope.receiver)?;
     text.push_str(")")
 }
 
-fn write_letter_at(text: &mut String, whole: &Whole, number: u64) -> Result<(), AllocError>
-    ensures { OnOk result (string_bytes text.new ≡ string_bytes text.old ++ letter_note (from_one whole.now.network number)) }
+fn write_envelope_at(text: &mut String, whole: &ClusterState, number: u64) -> Result<(), AllocError>
+    ensures { OnOk result (string_bytes text.new ≡ string_bytes text.old ++ envelope_note (from_one whole.now.network number)) }
 {
-    let Some(letter) = letter_at(whole, number) else {
+    let Some(envelope) = envelope_at(whole, number) else {
         return Ok(());
     };
-    write_letter(text, letter)
+    write_envelope(text, envelope)
 }
 
-fn write_message(text: &mut String, whole: &Whole, number: u64) -> Result<(), AllocError>
+fn write_message(text: &mut String, whole: &ClusterState, number: u64) -> Result<(), AllocError>
     ensures { OnOk result (string_bytes text.new ≡ string_bytes text.old ++ message_text whole.now number) }
 {
     write!(text, "Message {number}")?;
-    write_letter_at(text, whole, number)?;
+    write_envelope_at(text, whole, number)?;
     text.push_str(" has not arrived")?;
     write_remedy(text, Event::Deliver(number))?;
     Ok(())
@@ -180,7 +180,7 @@ fn write_node_untold(
     text: &mut String,
     log: &[Entry],
     lines: &[usize],
-    whole: &Whole,
+    whole: &ClusterState,
     worker: WorkerId,
     dead: NodeId,
 ) -> Result<(), AllocError>
@@ -199,7 +199,7 @@ fn write_released(
     text: &mut String,
     log: &[Entry],
     lines: &[usize],
-    whole: &Whole,
+    whole: &ClusterState,
     object: ObjectId,
 ) -> Result<(), AllocError>
     ensures { OnOk result (string_bytes text.new ≡ string_bytes text.old ++ released_text log.now lines.now whole.now object) }
@@ -229,7 +229,7 @@ fn write_link(
     index: &BirthIndex,
     log: &[Entry],
     lines: &[usize],
-    whole: &Whole,
+    whole: &ClusterState,
     link: &Link,
 ) -> Result<(), AllocError>
     ensures { IsIndexOf index.now log.now → OnOk result
@@ -275,7 +275,7 @@ pub fn write_links(
     index: &BirthIndex,
     log: &[Entry],
     lines: &[usize],
-    whole: &Whole,
+    whole: &ClusterState,
     links: &[Link],
 ) -> Result<(), AllocError>
     ensures { IsIndexOf index.now log.now → OnOk result

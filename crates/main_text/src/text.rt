@@ -17,11 +17,11 @@ use crate::happenings::{Happening, write_when_last};
 use crate::links::write_links;
 use crate::traps::write_traps;
 use held::SharedContent;
-use history::main_end::main_end;
 use ids::{AttemptId, ObjectId, WorkerId};
 use log_entries::Entry;
 use log_words::{BirthIndex, Contents, write_content};
-use protocol_data::Whole;
+use protocol_data::ClusterState;
+use report_text::main_end::main_end;
 use std::alloc::{AllocError, Global};
 use values::Content;
 use waits::links;
@@ -42,7 +42,7 @@ fn write_main_when(
     text: &mut String,
     log: &[Entry],
     lines: &[usize],
-    whole: &Whole,
+    whole: &ClusterState,
 ) -> Result<(), AllocError>
     ensures { OnOk result
         (string_bytes text.new ≡ string_bytes text.old ++ when_last whole.now.jobs lines.now log.now (Stops main_attempt)) }
@@ -58,7 +58,7 @@ fn write_ended(
     contents: Contents,
     log: &[Entry],
     lines: &[usize],
-    whole: &Whole,
+    whole: &ClusterState,
     content: &Content,
 ) -> Result<(), AllocError>
     ensures { OnOk result
@@ -78,7 +78,7 @@ fn write_main_traps(
     index: &BirthIndex,
     log: &[Entry],
     lines: &[usize],
-    whole: &Whole,
+    whole: &ClusterState,
 ) -> Result<(), AllocError>
     requires { IsIndexOf index.now log.now }
     ensures { OnOk result (string_bytes text.new
@@ -96,7 +96,7 @@ fn write_source(
     contents: Contents,
     log: &[Entry],
     lines: &[usize],
-    whole: &Whole,
+    whole: &ClusterState,
     content: &Content,
 ) -> Result<(), AllocError>
     ensures { OnOk result
@@ -118,7 +118,7 @@ fn write_all_links(
     contents: Contents,
     log: &[Entry],
     lines: &[usize],
-    whole: &Whole,
+    whole: &ClusterState,
 ) -> Result<(), AllocError>
     ensures { OnOk result
         (string_bytes text.new ≡ string_bytes text.old ++ links_text contents log.now lines.now whole.now (links whole.now)) }
@@ -136,7 +136,7 @@ fn write_open(
     contents: Contents,
     log: &[Entry],
     lines: &[usize],
-    whole: &Whole,
+    whole: &ClusterState,
 ) -> Result<(), AllocError>
     ensures { OnOk result (string_bytes text.new ≡ string_bytes text.old ++ open_text contents log.now lines.now whole.now) }
 {
@@ -151,7 +151,7 @@ fn write_unended(
     contents: Contents,
     log: &[Entry],
     lines: &[usize],
-    whole: &Whole,
+    whole: &ClusterState,
     lack: Option<Lack>,
 ) -> Result<(), AllocError>
     ensures { OnOk result
@@ -169,7 +169,7 @@ fn write_main_end(
     contents: Contents,
     log: &[Entry],
     lines: &[usize],
-    whole: &Whole,
+    whole: &ClusterState,
     end: Option<&SharedContent>,
 ) -> Result<(), AllocError>
     ensures { OnOk result
@@ -195,7 +195,7 @@ pub fn main_text(
     contents: Contents,
     log: &[Entry],
     lines: &[usize],
-    whole: &Whole,
+    whole: &ClusterState,
 ) -> Result<String, AllocError>
     ensures { IfOk result (λ text. string_bytes text ≡ main_text contents log.now lines.now whole.now) }
 {

@@ -5,21 +5,21 @@ ghost use Rattle.std.specs.List.{flat_map};
 ghost use Rattle.std.specs.Option.{option_map};
 ghost use Rattle.values.specs.Values.{content_of, trap_of};
 ghost use Rattle.event_log.specs.Words.{births};
-ghost use Rattle.history.specs.Main.{first};
+ghost use Rattle.report_text.specs.Main.{first};
 ghost use Rattle.log_words.specs.Index.{IsIndexOf};
 ghost use Rattle.why_text.specs.Again.{runner_of};
 ghost use Rattle.main_text.specs.Traps.{answer_count, behind_text, count_in, operators, own_text, run_text, runner_note};
 ghost use Rattle.main_text.specs.Traps.{trap_ended, trap_in, trap_in_outcome, trap_note, trap_text, traps_text};
 
 use crate::attempts::write_made;
+use crate::endpoints::write_worker;
 use crate::happenings::{Happening, write_when_last};
-use crate::parties::write_worker;
 use held::SharedContent;
 use ids::{AttemptId, ObjectId, WorkerId};
 use log_entries::Entry;
 use log_text::write_named;
 use log_words::{BirthIndex, Contents};
-use protocol_data::Whole;
+use protocol_data::ClusterState;
 use report::trap_name;
 use sequence::Seq;
 use std::alloc::AllocError;
@@ -78,7 +78,7 @@ fn write_runner_of(text: &mut String, log: &[Entry], attempt: AttemptId) -> Resu
 fn write_run(
     text: &mut String,
     index: &BirthIndex,
-    whole: &Whole,
+    whole: &ClusterState,
     log: &[Entry],
     lines: &[usize],
     attempt: AttemptId,
@@ -218,7 +218,7 @@ fn write_trap(
     text: &mut String,
     contents: Contents,
     index: &BirthIndex,
-    whole: &Whole,
+    whole: &ClusterState,
     log: &[Entry],
     lines: &[usize],
     attempt: AttemptId,
@@ -241,7 +241,7 @@ pub fn write_traps(
     text: &mut String,
     contents: Contents,
     index: &BirthIndex,
-    whole: &Whole,
+    whole: &ClusterState,
     log: &[Entry],
     lines: &[usize],
     most: usize,

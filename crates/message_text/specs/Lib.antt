@@ -1,4 +1,4 @@
 pub mod Messages
-pub mod Letters
+pub mod Envelopes
 pub mod Sent
 pub mod Text

@@ -5,12 +5,12 @@ use Rattle.std.specs.Fmt.{decimal}
 use Rattle.report.specs.ValueTexts.{id_text}
 use Rattle.meaning.specs.Values.{Id, Birth, Outcome}
 use Rattle.event_log.specs.Entries.{Attempt}
-use Rattle.history.specs.Texts.{attempt_text, fault_text}
+use Rattle.report_text.specs.Texts.{attempt_text, fault_text}
 use Rattle.log_words.specs.declared.contents.Contents.{Contents}
 use Rattle.log_words.specs.Calls.{birth_text}
 use Rattle.log_words.specs.Contents.{content_text}
-use Rattle.protocol_data.specs.declared.message.Party.{Party}
-use Rattle.protocol_data.specs.declared.message.Party.TheVariants.{TheWorker, TheNode}
+use Rattle.protocol_data.specs.declared.message.Endpoint.{Endpoint}
+use Rattle.protocol_data.specs.declared.message.Endpoint.TheVariants.{TheWorker, TheNode}
 use Rattle.protocol_data.specs.declared.message.EndedResult.{EndedResult}
 use Rattle.protocol_data.specs.declared.message.Message.{Message}
 use Rattle.protocol_data.specs.declared.message.Message.TheVariants.{Ask, Give, Elsewhere, Wait, Back, Push, Finished, FinishedAck, Failed}
@@ -19,7 +19,7 @@ use Rattle.protocol_data.specs.declared.message.Reason.{Reason}
 use Rattle.protocol_data.specs.declared.message.Reason.TheVariants.{WasReleased, OwnerIsDead}
 
 -- w2, or n1
-abbrev pub party_text : Party → List ℕ
+abbrev pub party_text : Endpoint → List ℕ
 party_text (TheWorker w) = codes "w" ++ decimal w
 party_text (TheNode n) = codes "n" ++ decimal n
 

@@ -7,11 +7,11 @@ ghost use Rattle.message_text.specs.Messages.{kind_text, message_text, other_res
 ghost use Rattle.message_text.specs.Messages.{stop_text, unhold_text};
 
 use crate::lists::{write_nodes, write_objects};
-use held::{Origin, SharedContent};
-use history::kind_name;
+use held::{SharedBirth, SharedContent};
 use ids::{AttemptId, NodeId, ObjectId};
 use log_words::{Contents, write_birth, write_content};
 use protocol_data::{EndedResult, Message, Reason};
+use report_text::kind_name;
 use sequence::Seq;
 use std::alloc::AllocError;
 
@@ -19,7 +19,7 @@ fn write_push(
     text: &mut String,
     contents: Contents,
     attempt: AttemptId,
-    birth: &Origin,
+    birth: &SharedBirth,
 ) -> Result<(), AllocError>
     ensures { OnOk result (string_bytes text.new ≡ string_bytes text.old ++ push_text contents attempt birth.now) }
 {

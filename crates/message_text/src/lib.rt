@@ -1,13 +1,13 @@
 //! Messages in words, and a log in words with the messages that each event sent.
 #![tactic(auto)]
 
+mod endpoints;
+mod envelopes;
 mod kinds;
-mod letters;
 mod lists;
-mod parties;
 mod sent;
 mod text;
 
 pub use kinds::message_kind;
-pub use sent::{letters_between, sent_behind};
+pub use sent::{envelopes_between, sent_behind};
 pub use text::log_with_messages;

@@ -1,12 +1,12 @@
 // The messages that each event sent.
 
 ghost use Rattle.std.specs.Prelude.{◌≡◌, ◌++◌, OnOk, drop, string_bytes};
-ghost use Rattle.message_text.specs.Sent.{is_over, letters_between, sent_behind, sent_note, sent_text};
+ghost use Rattle.message_text.specs.Sent.{is_over, envelopes_between, sent_behind, sent_note, sent_text};
 
-use crate::letters::write_letters;
+use crate::envelopes::write_envelopes;
 use log_entries::Entry;
 use log_words::Contents;
-use protocol_data::Letter;
+use protocol_data::Envelope;
 use std::alloc::AllocError;
 
 /// How many messages had been sent behind that event, counted from 1; none before the first.
@@ -23,13 +23,13 @@ pub fn sent_behind(sent: &[usize], event: usize) -> usize
 }
 
 /// The messages with the numbers behind `from`, up to `until`.
-pub fn letters_between(letters: &[Letter], from: usize, until: usize) -> &[Letter]
-    ensures { result.now ≡ letters_between letters.now from until }
+pub fn envelopes_between(envelopes: &[Envelope], from: usize, until: usize) -> &[Envelope]
+    ensures { result.now ≡ envelopes_between envelopes.now from until }
 {
-    if from >= letters.len() || until <= from {
-        return &letters[..0];
+    if from >= envelopes.len() || until <= from {
+        return &envelopes[..0];
     }
-    let rest = &letters[from..];
+    let rest = &envelopes[from..];
     let count = until - from;
     if count >= rest.len() {
         return rest;
@@ -41,18 +41,23 @@ pub fn letters_between(letters: &[Letter], from: usize, until: usize) -> &[Lette
 fn write_sent(
     text: &mut String,
     contents: Contents,
-    letters: &[Letter],
+    envelopes: &[Envelope],
     sent: &[usize],
     event: usize,
 ) -> Result<(), AllocError>
-    ensures { OnOk result (string_bytes text.new ≡ string_bytes text.old ++ sent_text contents letters.now sent.now event) }
+    ensures { OnOk result (string_bytes text.new ≡ string_bytes text.old ++ sent_text contents envelopes.now sent.now event) }
 {
     if event == 0 {
         return Ok(());
     }
     let from = sent_behind(sent, event - 1);
     let until = sent_behind(sent, event);
-    write_letters(text, contents, from, letters_between(letters, from, until))
+    write_envelopes(
+        text,
+        contents,
+        from,
+        envelopes_between(envelopes, from, until),
+    )
 }
 
 /// Whether no entry of an event is still to come at the place.
@@ -69,15 +74,15 @@ pub fn is_over_at(log: &[Entry], place: usize) -> bool
 pub fn write_sent_where_over(
     text: &mut String,
     contents: Contents,
-    letters: &[Letter],
+    envelopes: &[Envelope],
     sent: &[usize],
     event: usize,
     is_over: bool,
 ) -> Result<(), AllocError>
-    ensures { OnOk result (string_bytes text.new ≡ string_bytes text.old ++ sent_note contents letters.now sent.now event is_over) }
+    ensures { OnOk result (string_bytes text.new ≡ string_bytes text.old ++ sent_note contents envelopes.now sent.now event is_over) }
 {
     if is_over {
-        return write_sent(text, contents, letters, sent, event);
+        return write_sent(text, contents, envelopes, sent, event);
     }
     Ok(())
 }

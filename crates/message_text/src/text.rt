@@ -7,20 +7,20 @@ use crate::sent::{is_over_at, write_sent_where_over};
 use log_entries::Entry;
 use log_text::write_line;
 use log_words::{BirthIndex, Contents, Told, is_refusal_at};
-use protocol_data::Letter;
+use protocol_data::Envelope;
 use std::alloc::{AllocError, Global};
 
 /// The log in words, as `log_text` has it, and below what came of each event a line for each message that the event sent: who sent it to
-/// whom, its number, and what it says, as docs/protocol.md has it. `letters` are all messages in the order of their numbers, and `sent` is
+/// whom, its number, and what it says, as docs/protocol.md has it. `envelopes` are all messages in the order of their numbers, and `sent` is
 /// how many had been sent behind each event. An event without a count sent nothing, and so one behind it.
 pub fn log_with_messages(
     alloc: Global,
     contents: Contents,
     log: &[Entry],
-    letters: &[Letter],
+    envelopes: &[Envelope],
     sent: &[usize],
 ) -> Result<String, AllocError>
-    ensures { IfOk result (λ text. string_bytes text ≡ log_with_messages contents log.now letters.now sent.now) }
+    ensures { IfOk result (λ text. string_bytes text ≡ log_with_messages contents log.now envelopes.now sent.now) }
 {
     let mut text = String::new(alloc);
     let index = BirthIndex::of(alloc, log)?;
@@ -30,7 +30,7 @@ pub fn log_with_messages(
         write_line(&mut text, contents, &index, log, &told, entry, is_refused)?;
         told.note(entry, is_refused)?;
         let is_over = is_over_at(log, place + 1);
-        write_sent_where_over(&mut text, contents, letters, sent, told.events, is_over)?;
+        write_sent_where_over(&mut text, contents, envelopes, sent, told.events, is_over)?;
     }
     Ok(text)
 }

@@ -14,8 +14,8 @@ use Rattle.evaluation.specs.Pieces.{stop_of}
 use Rattle.segment.specs.Jobs.{Done, IsTrueOf, JobParts, replay_of, whole_of}
 use Rattle.event_log.specs.Entries.{Entry, Event, Commit}
 use Rattle.event_files.specs.declared.recorded.RecordedEvent.{RecordedEvent}
-use Rattle.protocol.specs.Jobs.{AtEnd, AtGet, Handed, Job, OfJob, Outcomes, Stopped}
-use Rattle.protocol.specs.Whole.{Whole}
+use Rattle.protocol.specs.Jobs.{AtEnd, AtGet, CommitInput, Job, OfJob, Outcomes, Stopped}
+use Rattle.protocol.specs.Cluster.{ClusterState}
 use Rattle.protocol.specs.Answers.{Answer, answer, logged, whole_after}
 use Rattle.protocol.specs.Answers as answers
 use Rattle.seats.specs.of_protocol_board.Cores.{stopped_of, work_of}
@@ -76,22 +76,22 @@ told_same (answers.Refuses refusal) told other jobs h k = ap (λ u. with_given u
 
 -- ---- what is handed in is one thing
 
-of_jobs : (script : Script) (c : Whole) (j : ℕ) (d f : Done) → d.job ≡ f.job → IsTrueOf script d → IsTrueOf script f → (h k : Handed) →
+of_jobs : (script : Script) (c : ClusterState) (j : ℕ) (d f : Done) → d.job ≡ f.job → IsTrueOf script d → IsTrueOf script f → (h k : CommitInput) →
     IsHandedFor c j (Some d) h → IsHandedFor c j (Some f) k → h ≡ k
 of_jobs script c j d f same is others h k (inl x) (inl y) = x.0 ∙ ap (λ w. OfJob w) (one_work script d f same is others) ∙ sym y.0
 of_jobs script c j d f same is others h k (inl x) (inr y) = absurd (y.1 (subst (IsOut c j) same x.1))
 of_jobs script c j d f same is others h k (inr x) (inl y) = absurd (x.1 (subst (IsOut c j) (sym same) y.1))
 of_jobs script c j d f same is others h k (inr x) (inr y) = x.0 ∙ sym y.0
 
-one_commit : (script : Script) (c : Whole) (j : ℕ) (job : Option JobParts) (d f : Option Done) → IsDoneOn script job d → IsDoneOn script job f →
-    (h k : Handed) → IsHandedFor c j d h → IsHandedFor c j f k → h ≡ k
+one_commit : (script : Script) (c : ClusterState) (j : ℕ) (job : Option JobParts) (d f : Option Done) → IsDoneOn script job d → IsDoneOn script job f →
+    (h k : CommitInput) → IsHandedFor c j d h → IsHandedFor c j f k → h ≡ k
 one_commit script c j None d f x y h k s t = subst (λ o. IsHandedFor c j o h) x s ∙ sym (subst (λ o. IsHandedFor c j o k) y t)
 one_commit script c j (Some a) None f x y h k s t = absurd x
 one_commit script c j (Some a) (Some d) None x y h k s t = absurd y
 one_commit script c j (Some a) (Some d) (Some f) x y h k s t = of_jobs script c j d f (x.0 ∙ sym y.0) x.1 y.1 h k s t
 
-one_handed : (script : Script) (c : Whole) (e : Event) (jobs : List (Option JobParts)) (d f : Option Done) →
-    IsDoneOn script (job_for e jobs) d → IsDoneOn script (job_for e jobs) f → (h k : Handed) → IsHanded c e d h → IsHanded c e f k → h ≡ k
+one_handed : (script : Script) (c : ClusterState) (e : Event) (jobs : List (Option JobParts)) (d f : Option Done) →
+    IsDoneOn script (job_for e jobs) d → IsDoneOn script (job_for e jobs) f → (h k : CommitInput) → IsHanded c e d h → IsHanded c e f k → h ≡ k
 one_handed script c (Commit j) jobs d f x y h k s t = one_commit script c j (job_at jobs j) d f x y h k s t
 one_handed script c e jobs d f x y h k s t = s ∙ sym t
 
@@ -103,14 +103,14 @@ record Alike (p q : Play) : Type 0 where
   pub goes_on : p.run.is_halted ≡ false
 
 applied : (before after : RunState) (e : Event) (seat : ℕ) (d : Option Done) (told : Reply) → found_no_memory told ≡ false → Follows before e seat d after told →
-    (handed : Handed) × IsHanded before.whole e d handed × IsApplied before after e seat handed told
+    (handed : CommitInput) × IsHanded before.whole e d handed × IsApplied before after e seat handed told
 applied before after e seat d told memory (inl out) = let f : true ≡ false = sym (ap found_no_memory out.told_so) ∙ memory in absurd (cc)
 applied before after e seat d told memory (inr h) = h
 
 run_parts : (a b : RunState) → a.log ≡ b.log → a.whole ≡ b.whole → a.first_nodes ≡ b.first_nodes → a.is_halted ≡ b.is_halted → a ≡ b
 run_parts a b e f g h = parts a.log b.log a.whole b.whole a.first_nodes b.first_nodes a.is_halted b.is_halted e f g h
   where
-    parts : (l m : List Entry) (w v : Whole) (n k : ℕ) (x y : Bool) → l ≡ m → w ≡ v → n ≡ k → x ≡ y →
+    parts : (l m : List Entry) (w v : ClusterState) (n k : ℕ) (x y : Bool) → l ≡ m → w ≡ v → n ≡ k → x ≡ y →
         ◌≡◌ {A = RunState} (record { log = l; whole = w; first_nodes = n; is_halted = x }) (record { log = m; whole = v; first_nodes = k; is_halted = y })
     parts l m w v n k x y e f g h = cc
 

@@ -15,8 +15,8 @@ use Rattle.event_files.specs.declared.line.Line.{Line}
 use Rattle.event_files.specs.declared.line.Line.TheVariants as lines
 use Rattle.event_files.specs.declared.recorded.RecordedEvent.{RecordedEvent}
 use Rattle.histories.specs.Recorded as recorded
-use Rattle.protocol.specs.Jobs.{Handed, Job}
-use Rattle.protocol.specs.Whole.{Whole, Moved}
+use Rattle.protocol.specs.Jobs.{CommitInput, Job}
+use Rattle.protocol.specs.Cluster.{ClusterState, Transition}
 use Rattle.protocol.specs.Events.{happens}
 use Rattle.protocol.specs.Refusals.{is_within_limits, refusal}
 use Rattle.protocol.specs.Answers.{Answer, Refuses, decided, given_out, logged, takes}
@@ -90,7 +90,7 @@ claim_told : (w n : ℕ) (job : Job) (told : Reply) → job.number ≡ n + 1 →
 claim_told w n job told number h =
     sym (ap (given_by (Claim w)) h ∙ ap (λ k. Some k) number)
 
-given_taken : (c : Whole) (e : Event) (handed : Handed) (told : Reply) (n : ℕ) → n ≡ length c.jobs → refusal c e handed ≡ None → GivesThat (given_out c e) told →
+given_taken : (c : ClusterState) (e : Event) (handed : CommitInput) (told : Reply) (n : ℕ) → n ≡ length c.jobs → refusal c e handed ≡ None → GivesThat (given_out c e) told →
     given_at e false n ≡ given_by e told
 given_taken c (Claim w) handed told n same r h =
     let g = claim_gives c w handed r in
@@ -108,23 +108,23 @@ refused_says : (log : List Entry) (e : Event) (seat : ℕ) (code : Refusal) (tol
 refused_says log e seat code told h =
     said-event log e seat (Refused code ∷ []) refl ∙ ap (λ g. said_from 0 log ++ said seat e g ∷ []) (given_refused e (length (claims log)) told code h)
 
-taken_says : (log : List Entry) (c : Whole) (e : Event) (seat : ℕ) (handed : Handed) (told : Reply) → length (claims log) ≡ length c.jobs → refusal c e handed ≡ None →
+taken_says : (log : List Entry) (c : ClusterState) (e : Event) (seat : ℕ) (handed : CommitInput) (told : Reply) → length (claims log) ≡ length c.jobs → refusal c e handed ≡ None →
     GivesThat (given_out c e) told → Says log e seat (takes (happens c e handed) (given_out c e)) told
 taken_says log c e seat handed told same r h =
-    let m : Moved = happens c e handed in
+    let m : Transition = happens c e handed in
     let es : List Entry = m.out.entries in
     let q = (happens-counted c e handed).quiet in
     said-event log e seat es (no_event es q)
     ∙ ap (λ b. said_from 0 log ++ said seat e (given_at e b (length (claims log))) ∷ []) (not_refused es q)
     ∙ ap (λ g. said_from 0 log ++ said seat e g ∷ []) (given_taken c e handed told (length (claims log)) same r h)
 
-limited_says : (log : List Entry) (c : Whole) (e : Event) (seat : ℕ) (handed : Handed) (told : Reply) → length (claims log) ≡ length c.jobs → refusal c e handed ≡ None →
+limited_says : (log : List Entry) (c : ClusterState) (e : Event) (seat : ℕ) (handed : CommitInput) (told : Reply) → length (claims log) ≡ length c.jobs → refusal c e handed ≡ None →
     (b : Bool) → Tells (if b then takes (happens c e handed) (given_out c e) else Refuses Limit) told →
     Says log e seat (if b then takes (happens c e handed) (given_out c e) else Refuses Limit) told
 limited_says log c e seat handed told same r true h = taken_says log c e seat handed told same r h
 limited_says log c e seat handed told same r false h = refused_says log e seat Limit told h
 
-decided_says : (log : List Entry) (c : Whole) (e : Event) (seat : ℕ) (handed : Handed) (told : Reply) → length (claims log) ≡ length c.jobs → (o : Option Refusal) →
+decided_says : (log : List Entry) (c : ClusterState) (e : Event) (seat : ℕ) (handed : CommitInput) (told : Reply) → length (claims log) ≡ length c.jobs → (o : Option Refusal) →
     refusal c e handed ≡ o → Tells (decided c e handed o) told → Says log e seat (decided c e handed o) told
 decided_says log c e seat handed told same None r h = limited_says log c e seat handed told same r (is_within_limits (happens c e handed).whole) h
 decided_says log c e seat handed told same (Some code) r h = refused_says log e seat code told h

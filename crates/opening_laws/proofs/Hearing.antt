@@ -6,32 +6,32 @@ use Rattle.event_log.specs.Entries.{Attempt}
 use Rattle.event_log.specs.Words.{same_attempt}
 use Rattle.meaning.specs.Values.{Birth}
 use Rattle.limit_laws.specs.of_protocol.Deliveries.{reached, reached_from_node, reached_from_worker}
-use Rattle.limit_laws.specs.of_protocol.Messages.{At, Back, CopyOf, Elsewhere, Failed, Finished, FinishedAck, Give, Gone, Hold, HoldAck, Message, Missing, Party, Push}
+use Rattle.limit_laws.specs.of_protocol.Messages.{At, Back, CopyOf, Elsewhere, Failed, Finished, FinishedAck, Give, Gone, Hold, HoldAck, Message, Missing, Endpoint, Push}
 use Rattle.limit_laws.specs.of_protocol.Messages.{TheNode, TheWorker, Unhold, Where}
 use Rattle.limit_laws.specs.of_protocol.Runs.{begins_run, finished_ack_reached, hears_by, is_free, push_reached}
-use Rattle.limit_laws.specs.of_protocol.Steps.{Here, says_to_node}
-use Rattle.limit_laws.specs.of_protocol.Tables.{Run}
+use Rattle.limit_laws.specs.of_protocol.Steps.{WorkerContext, says_to_node}
+use Rattle.limit_laws.specs.of_protocol.Tables.{Execution}
 use Rattle.opening_laws.specs.Spending.{Spends, waits_of}
 use Rattle.opening_laws.proofs.Spends.{spends_if, spends_less, spends_none, spends_same, spends_then, with_run_spends}
 use Rattle.opening_laws.proofs.Asks.{hold_ack_spends, hold_spends, unhold_spends}
 use Rattle.opening_laws.proofs.Places.{at_spends, copy_spends, failed_spends, finished_spends, gone_spends, missing_spends, where_spends}
 use Rattle.opening_laws.proofs.Notices.{elsewhere_spends, given_spends}
 
-pub push_spends : (h : Here) (a : Attempt) (spec : Birth) → Spends h (push_reached h a spec)
+pub push_spends : (h : WorkerContext) (a : Attempt) (spec : Birth) → Spends h (push_reached h a spec)
 push_spends h a spec =
     spends_if (is_free h.worker.run && not (list_any (λ b. same_attempt b a) h.worker.began)) (spends_less {g = begins_run h a spec} refl refl) spends_none
 
-hears_by_spends : (h : Here) (a : Attempt) (r : Option Run) → h.worker.run ≡ r → Spends h (hears_by h a r)
+hears_by_spends : (h : WorkerContext) (a : Attempt) (r : Option Execution) → h.worker.run ≡ r → Spends h (hears_by h a r)
 hears_by_spends h a None e = spends_none
 hears_by_spends h a (Some run) e =
     spends_if (same_attempt run.attempt a && run.is_over) (with_run_spends h (record run { is_acknowledged = true }) (ap waits_of e)) spends_none
 
-pub finished_ack_spends : (h : Here) (a : Attempt) → Spends h (finished_ack_reached h a)
+pub finished_ack_spends : (h : WorkerContext) (a : Attempt) → Spends h (finished_ack_reached h a)
 finished_ack_spends h a =
-    let g : Here = hears_by h a h.worker.run in
+    let g : WorkerContext = hears_by h a h.worker.run in
     spends_then {g = g} (hears_by_spends h a h.worker.run refl) (spends_same {g = says_to_node g h.worker.node (Back a)} refl refl)
 
-from_worker_spends : (h : Here) (w : ℕ) (m : Message) → Spends h (reached_from_worker h w m)
+from_worker_spends : (h : WorkerContext) (w : ℕ) (m : Message) → Spends h (reached_from_worker h w m)
 from_worker_spends h w (Push a spec) = push_spends h a spec
 from_worker_spends h w (Finished a n rs) = finished_spends h w a n rs
 from_worker_spends h w (FinishedAck a) = finished_ack_spends h a
@@ -45,13 +45,13 @@ from_worker_spends h w (HoldAck e o) = hold_ack_spends h e o
 from_worker_spends h w (Unhold e o why) = unhold_spends h e o why
 from_worker_spends h w m = spends_none
 
-from_node_spends : (h : Here) (n : ℕ) (m : Message) → Spends h (reached_from_node h n m)
+from_node_spends : (h : WorkerContext) (n : ℕ) (m : Message) → Spends h (reached_from_node h n m)
 from_node_spends h n (Give a t w) = given_spends h n a t w
 from_node_spends h n (Elsewhere a t m) = elsewhere_spends h a t m
 from_node_spends h n (CopyOf o number c) = copy_spends h o number c
 from_node_spends h n (Missing o number m) = missing_spends h (TheNode n) o number m
 from_node_spends h n m = spends_none
 
-pub reached_spends : (h : Here) (from : Party) (m : Message) → Spends h (reached h from m)
+pub reached_spends : (h : WorkerContext) (from : Endpoint) (m : Message) → Spends h (reached h from m)
 reached_spends h (TheWorker w) m = from_worker_spends h w m
 reached_spends h (TheNode n) m = from_node_spends h n m

@@ -4,7 +4,7 @@ use Rattle.std.specs.Prelude.{Bool, true, false, if◌then◌else◌, nat_lt, sl
 use Rattle.std.proofs.lemmas.Bool.Decides.{nat_tests}
 use Rattle.event_log.specs.Entries.{Attempt}
 use Rattle.event_log.specs.Words.{attempt}
-use Rattle.protocol.specs.Messages.{Ask, Letter, Message}
+use Rattle.protocol.specs.Messages.{Ask, Envelope, Message}
 use Rattle.protocol.specs.Sets.{object_id}
 use Rattle.lease_discipline.specs.Asks.{Asked}
 use Rattle.owed_asks.specs.Law.{AskNumbersAreLow}
@@ -24,7 +24,7 @@ abbrev one_if : Bool → ℕ
 one_if b = if b then 1 else 0
 
 -- how many of these are asks of a number below that
-abbrev count : ℕ → List Letter → ℕ
+abbrev count : ℕ → List Envelope → ℕ
 count k [] = 0
 count k (l ∷ ls) = one_if (is_below k (ask_number l.message)) + count k ls
 
@@ -32,7 +32,7 @@ one_at_most : (b : Bool) → one_if b ≤ 1
 one_at_most true = omega arith
 one_at_most false = omega arith
 
-at_most_all : (k : ℕ) (ls : List Letter) → count k ls ≤ length ls
+at_most_all : (k : ℕ) (ls : List Envelope) → count k ls ≤ length ls
 at_most_all k [] = omega arith
 at_most_all k (l ∷ ls) =
     let first = one_at_most (is_below k (ask_number l.message)) in
@@ -50,7 +50,7 @@ wider_one k (Some t) = wider_test (nat_lt t k) (nat_lt t (k + 1)) (λ e. still t
     still : (t k : ℕ) → nat_lt t k ≡ true → nat_lt t (k + 1) ≡ true
     still t k e = grind (arith, nat_tests)
 
-wider : (k : ℕ) (ls : List Letter) → count k ls ≤ count (k + 1) ls
+wider : (k : ℕ) (ls : List Envelope) → count k ls ≤ count (k + 1) ls
 wider k [] = omega arith
 wider k (l ∷ ls) =
     let first = wider_one k (ask_number l.message) in
@@ -69,11 +69,11 @@ new_one k o e =
     (subst (λ a. one_if a + 1 ≤ one_if (nat_lt k (k + 1))) (sym (not_below k)) (subst (λ b. 1 ≤ one_if b) (sym (below_next k)) (omega arith)))
 
 -- the ask of that number is one more
-one_more : (k : ℕ) (ls : List Letter) (i : ℕ) (l : Letter) → slice_get ls i ≡ Some l → ask_number l.message ≡ Some k → count k ls + 1 ≤ count (k + 1) ls
+one_more : (k : ℕ) (ls : List Envelope) (i : ℕ) (l : Envelope) → slice_get ls i ≡ Some l → ask_number l.message ≡ Some k → count k ls + 1 ≤ count (k + 1) ls
 one_more k [] i l e f = absurd (cc)
 one_more k (x ∷ ls) zero l e f =
     let same : x ≡ l = cc in
-    let first = new_one k (ask_number x.message) (ap (λ (y : Letter). ask_number y.message) same ∙ f) in
+    let first = new_one k (ask_number x.message) (ap (λ (y : Envelope). ask_number y.message) same ∙ f) in
     let rest = wider k ls in
     omega (arith, first, rest)
 one_more k (x ∷ ls) (suc i) l e f =
@@ -81,7 +81,7 @@ one_more k (x ∷ ls) (suc i) l e f =
     let rest = one_more k ls i l e f in
     omega (arith, first, rest)
 
-many : (sent : List Letter) (a : Attempt) → AsksFollow sent → (t n : ℕ) → Asked sent a t n → t + 1 ≤ count (t + 1) sent
+many : (sent : List Envelope) (a : Attempt) → AsksFollow sent → (t n : ℕ) → Asked sent a t n → t + 1 ≤ count (t + 1) sent
 many sent a follow zero n asked = let new = one_more 0 sent asked.1.0 _ asked.1.1 refl in omega (arith, new)
 many sent a follow (suc t) n asked =
     let same : suc t ≡ t + 1 = omega arith in
@@ -91,7 +91,7 @@ many sent a follow (suc t) n asked =
     let counts : count (suc t) sent ≡ count (t + 1) sent = ap (λ i. count i sent) same in
     omega (arith, old, new, counts)
 
-low : (sent : List Letter) (a : Attempt) → AsksFollow sent → (t n : ℕ) → Asked sent a t n → t < length sent
+low : (sent : List Envelope) (a : Attempt) → AsksFollow sent → (t n : ℕ) → Asked sent a t n → t < length sent
 low sent a follow t n asked =
     let so_many = many sent a follow t n asked in
     let all = at_most_all (t + 1) sent in

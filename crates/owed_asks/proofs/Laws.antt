@@ -20,16 +20,16 @@ use Rattle.event_log.proofs.SaneLaws.{legal_logs_are_sane}
 use Rattle.event_log.specs.Rules.{Setting}
 use Rattle.protocol.specs.Numbered.{changed_at, item_at}
 use Rattle.protocol.specs.Sets.{has, is_empty, object_id}
-use Rattle.protocol.specs.Messages.{Ask, Elsewhere, Give, Letter, Message, Party, Push, TheNode, TheWorker, letter}
-use Rattle.protocol.specs.Jobs.{Given, Handed, Nothing, OfAnother, OfJob}
-use Rattle.protocol.specs.Nodes.{AskReply, Leased, Node, Outbox, Queued, SentOn, There}
+use Rattle.protocol.specs.Messages.{Ask, Elsewhere, Give, Envelope, Message, Endpoint, Push, TheNode, TheWorker, envelope}
+use Rattle.protocol.specs.Jobs.{JobRecord, CommitInput, Nothing, OfAnother, OfJob}
+use Rattle.protocol.specs.Nodes.{AskReply, Leased, Node, Outbox, Queued, SentOn, NodeContext}
 use Rattle.protocol.specs.Slots.{ask_key, forgets, node_reached}
-use Rattle.protocol.specs.Tables.{AskedAt, AtRest, Beside, ByTask, Maker, Object, OwnTask, Progress, RunsOn, WasPut, Worker, task_in, task_of}
-use Rattle.protocol.specs.Steps.{Here, object_at, own_object}
+use Rattle.protocol.specs.Tables.{AskedAt, AtRest, Beside, ByTask, ObjectSource, Object, OwnTask, Progress, RunsOn, WasPut, Worker, task_in, task_of}
+use Rattle.protocol.specs.Steps.{WorkerContext, object_at, own_object}
 use Rattle.protocol.specs.Asking.{if_asked, stands_at}
 use Rattle.protocol.specs.Releases.{release_step}
 use Rattle.protocol.specs.Deliveries.{reached}
-use Rattle.protocol.specs.Whole.{Moved, Whole, here, moved, node_at, node_does, node_does_by, worker_at, worker_does, worker_does_at, worker_does_by}
+use Rattle.protocol.specs.Cluster.{Transition, ClusterState, here, moved, node_at, node_does, node_does_by, worker_at, worker_does, worker_does_at, worker_does_by}
 use Rattle.protocol.specs.Commits.{claim_step, commit_step}
 use Rattle.protocol.specs.Notices.{notice_node_step, notice_step}
 use Rattle.protocol.specs.Ticks.{tick_step}
@@ -38,7 +38,7 @@ use Rattle.protocol.specs.Events.{with_delivered}
 use Rattle.protocol.specs.Answers.{Answer, Refuses, Step, Takes, answer, decided, given_out, logged, takes, whole_after}
 use Rattle.protocol.specs.Refusals.{is_within_limits, refusal}
 use Rattle.lease_discipline.specs.of_protocol_legal.Past.{past}
-use Rattle.lease_discipline.specs.of_protocol_legal.Knows.{IsBegun, KnowsMaker, KnowsProgress, KnowsTask, KnowsWorker}
+use Rattle.lease_discipline.specs.of_protocol_legal.Knows.{IsBegun, KnowsSource, KnowsProgress, KnowsTask, KnowsWorker}
 use Rattle.lease_discipline.specs.of_protocol_legal.Lost.{RisingTo}
 use Rattle.lease_discipline.specs.of_protocol_legal.Whole.{Between, setting_of}
 use Rattle.lease_discipline.specs.of_protocol_laws.Coming.{IsRight}
@@ -47,7 +47,7 @@ use Rattle.protocol_owed.specs.Runs.{Handing, Running, after_event, after_events
 use Rattle.protocol_owed.specs.Seen.{IsCalm, Sends}
 use Rattle.protocol_owed.proofs.Asks.{Stands}
 use Rattle.protocol_owed.proofs.Counting.{happens-counted, no_event}
-use Rattle.protocol_owed.proofs.Letters.{among-append_cases}
+use Rattle.protocol_owed.proofs.Envelopes.{among-append_cases}
 use Rattle.protocol_owed.proofs.Nodes.{NodesAreRight, nothing_past}
 use Rattle.protocol_owed.proofs.Opening.{opens-right, runs-right}
 use Rattle.protocol_owed.proofs.Replying.{elsewhere_is_asked, give_is_begun}
@@ -66,91 +66,91 @@ use Rattle.owed_asks.proofs.Splits.{item_below, some_serial}
 
 -- ---- an accepted event
 
-pub record IsTaken (c : Whole) (e : Event) (handed : Handed) (step : Step) : Type 0 where
+pub record IsTaken (c : ClusterState) (e : Event) (handed : CommitInput) (step : Step) : Type 0 where
   pub whole : step.whole ≡ (happens c e handed).whole
   pub entries : step.entries ≡ (happens c e handed).out.entries
-  pub letters : step.letters ≡ (happens c e handed).out.letters
+  pub envelopes : step.envelopes ≡ (happens c e handed).out.envelopes
 
 same_step : (s t : Step) → ◌≡◌ {A = Answer} (Takes s) (Takes t) → s ≡ t
 same_step s t e = cc
 
-taken_by : (c : Whole) (e : Event) (handed : Handed) (step : Step) (b : Bool) →
+taken_by : (c : ClusterState) (e : Event) (handed : CommitInput) (step : Step) (b : Bool) →
     (if b then takes (happens c e handed) (given_out c e) else Refuses Limit) ≡ Takes step → IsTaken c e handed step
 taken_by c e handed step false f = absurd (cc)
 taken_by c e handed step true f =
     let is = same_step _ step f in
-    record { whole = ap (λ (s : Step). s.whole) (sym is); entries = ap (λ (s : Step). s.entries) (sym is); letters = ap (λ (s : Step). s.letters) (sym is) }
+    record { whole = ap (λ (s : Step). s.whole) (sym is); entries = ap (λ (s : Step). s.entries) (sym is); envelopes = ap (λ (s : Step). s.envelopes) (sym is) }
 
-taken_so : (c : Whole) (e : Event) (handed : Handed) (step : Step) (code : Option Refusal) → decided c e handed code ≡ Takes step → IsTaken c e handed step
+taken_so : (c : ClusterState) (e : Event) (handed : CommitInput) (step : Step) (code : Option Refusal) → decided c e handed code ≡ Takes step → IsTaken c e handed step
 taken_so c e handed step None f = taken_by c e handed step (is_within_limits (happens c e handed).whole) f
 taken_so c e handed step (Some code) f = absurd (cc)
 
-pub is_taken : (c : Whole) (e : Event) (handed : Handed) (step : Step) → answer c e handed ≡ Takes step → IsTaken c e handed step
+pub is_taken : (c : ClusterState) (e : Event) (handed : CommitInput) (step : Step) → answer c e handed ≡ Takes step → IsTaken c e handed step
 is_taken c e handed step f = taken_so c e handed step (refusal c e handed) f
 
 -- what a delivery to a live worker makes
-pub delivery : (c : Whole) (k w : ℕ) (from : Party) (m : Message) (x : Worker) (node : Node) → item_at c.network k ≡ Some (letter from (TheWorker w) m) →
-    worker_at c w ≡ Some x → x.is_live ≡ true → node_at c x.node ≡ Some node → (handed : Handed) →
+pub delivery : (c : ClusterState) (k w : ℕ) (from : Endpoint) (m : Message) (x : Worker) (node : Node) → item_at c.network k ≡ Some (envelope from (TheWorker w) m) →
+    worker_at c w ≡ Some x → x.is_live ≡ true → node_at c x.node ≡ Some node → (handed : CommitInput) →
     (happens c (Deliver k) handed).out ≡ (release_step (reached (here c w x node) from m)).there.out
 delivery c k w from m x node sent at live home handed =
-    let d : Whole = with_delivered c k in
-    let f : Here → Here = λ h. reached h from m in
+    let d : ClusterState = with_delivered c k in
+    let f : WorkerContext → WorkerContext = λ h. reached h from m in
     ap (λ y. (delivered_by c k y).out) sent ∙ ap (λ y. (if is_live_worker y then worker_does d w f else moved d).out) at ∙
     ap (λ b. (if b then worker_does d w f else moved d).out) live ∙ ap (λ y. (worker_does_by d w f y).out) at ∙
     ap (λ y. (worker_does_at d w x f y).out) home
 
 -- the network grows by what is sent
-none_sent : (ls : List Letter) → ls ≡ ls ++ []
+none_sent : (ls : List Envelope) → ls ≡ ls ++ []
 none_sent ls = sym (append-nil ls)
 
-worker_network : (c : Whole) (w : ℕ) (f : Here → Here) → (worker_does c w f).whole.network ≡ c.network ++ (worker_does c w f).out.letters
+worker_network : (c : ClusterState) (w : ℕ) (f : WorkerContext → WorkerContext) → (worker_does c w f).whole.network ≡ c.network ++ (worker_does c w f).out.envelopes
 worker_network c w f = by_worker (worker_at c w)
   where
-    by_node : (x : Worker) (o : Option Node) → (worker_does_at c w x f o).whole.network ≡ c.network ++ (worker_does_at c w x f o).out.letters
+    by_node : (x : Worker) (o : Option Node) → (worker_does_at c w x f o).whole.network ≡ c.network ++ (worker_does_at c w x f o).out.envelopes
     by_node x None = none_sent c.network
     by_node x (Some node) = refl
 
-    by_worker : (o : Option Worker) → (worker_does_by c w f o).whole.network ≡ c.network ++ (worker_does_by c w f o).out.letters
+    by_worker : (o : Option Worker) → (worker_does_by c w f o).whole.network ≡ c.network ++ (worker_does_by c w f o).out.envelopes
     by_worker None = none_sent c.network
     by_worker (Some x) = by_node x (node_at c x.node)
 
-node_network : (c : Whole) (n : ℕ) (f : There → There) → (node_does c n f).whole.network ≡ c.network ++ (node_does c n f).out.letters
+node_network : (c : ClusterState) (n : ℕ) (f : NodeContext → NodeContext) → (node_does c n f).whole.network ≡ c.network ++ (node_does c n f).out.envelopes
 node_network c n f = by_node (node_at c n)
   where
-    by_node : (o : Option Node) → (node_does_by c n f o).whole.network ≡ c.network ++ (node_does_by c n f o).out.letters
+    by_node : (o : Option Node) → (node_does_by c n f o).whole.network ≡ c.network ++ (node_does_by c n f o).out.envelopes
     by_node None = none_sent c.network
     by_node (Some node) = refl
 
-either_network : (c : Whole) (b : Bool) (m n : Moved) → m.whole.network ≡ c.network ++ m.out.letters → n.whole.network ≡ c.network ++ n.out.letters →
-    (if b then m else n).whole.network ≡ c.network ++ (if b then m else n).out.letters
+either_network : (c : ClusterState) (b : Bool) (m n : Transition) → m.whole.network ≡ c.network ++ m.out.envelopes → n.whole.network ≡ c.network ++ n.out.envelopes →
+    (if b then m else n).whole.network ≡ c.network ++ (if b then m else n).out.envelopes
 either_network c true m n p q = p
 either_network c false m n p q = q
 
-delivered_network : (c : Whole) (k : ℕ) (o : Option Letter) → (delivered_by c k o).whole.network ≡ c.network ++ (delivered_by c k o).out.letters
+delivered_network : (c : ClusterState) (k : ℕ) (o : Option Envelope) → (delivered_by c k o).whole.network ≡ c.network ++ (delivered_by c k o).out.envelopes
 delivered_network c k None = none_sent c.network
-delivered_network c k (Some l) = by_party l.receiver
+delivered_network c k (Some l) = by_endpoint l.receiver
   where
-    by_party : (p : Party) → (delivered_to (with_delivered c k) l p).whole.network ≡ c.network ++ (delivered_to (with_delivered c k) l p).out.letters
-    by_party (TheWorker w) =
+    by_endpoint : (p : Endpoint) → (delivered_to (with_delivered c k) l p).whole.network ≡ c.network ++ (delivered_to (with_delivered c k) l p).out.envelopes
+    by_endpoint (TheWorker w) =
         either_network c (is_live_worker (worker_at c w)) (worker_does (with_delivered c k) w (λ h. reached h l.sender l.message)) (moved
         (with_delivered c k))
         (worker_network (with_delivered c k) w (λ h. reached h l.sender l.message)) (none_sent c.network)
-    by_party (TheNode n) =
+    by_endpoint (TheNode n) =
         either_network c (is_live_node (node_at c n)) (node_does (with_delivered c k) n (λ h. node_reached h l.sender l.message)) (moved (with_delivered c k))
         (node_network (with_delivered c k) n (λ h. node_reached h l.sender l.message)) (none_sent c.network)
 
-committed_network : (c : Whole) (j : ℕ) (handed : Handed) (g : Option Given) →
-    (committed_by c j handed g).whole.network ≡ c.network ++ (committed_by c j handed g).out.letters
+committed_network : (c : ClusterState) (j : ℕ) (handed : CommitInput) (g : Option JobRecord) →
+    (committed_by c j handed g).whole.network ≡ c.network ++ (committed_by c j handed g).out.envelopes
 committed_network c j (OfJob d) (Some g) = worker_network (with_committed c j (objects_made d.births)) g.worker (λ h. commit_step h d)
 committed_network c j (OfJob d) None = none_sent c.network
 committed_network c j Nothing g = none_sent c.network
 committed_network c j OfAnother g = none_sent c.network
 
-killed_network : (c : Whole) (w : ℕ) (o : Option Worker) → (killed_by c w o).whole.network ≡ c.network ++ (killed_by c w o).out.letters
+killed_network : (c : ClusterState) (w : ℕ) (o : Option Worker) → (killed_by c w o).whole.network ≡ c.network ++ (killed_by c w o).out.envelopes
 killed_network c w None = none_sent c.network
 killed_network c w (Some x) = node_network (record c { workers = changed_at c.workers w dead }) x.node (λ h. forgets h w)
 
-pub happens_network : (c : Whole) (e : Event) (handed : Handed) → (happens c e handed).whole.network ≡ c.network ++ (happens c e handed).out.letters
+pub happens_network : (c : ClusterState) (e : Event) (handed : CommitInput) → (happens c e handed).whole.network ≡ c.network ++ (happens c e handed).out.envelopes
 happens_network c (Claim w) handed =
     worker_network (record c { jobs = c.jobs ++ record { worker = w; is_committed = false } ∷ [] }) w (λ h. claim_step h (length c.jobs + 1))
 happens_network c (Commit j) handed = committed_network c j handed (item_at c.jobs j)
@@ -221,7 +221,7 @@ one_answer (Some Queued) a t v m (inl e) q = absurd (cc)
 one_answer (Some Queued) a t v m (inr (u, e, f)) q = absurd (cc)
 
 module _ (s : Setting) (r : Running) (keeps : RunKeeps s r) (calm : IsCalm r.log) where
-  abbrev c : Whole
+  abbrev c : ClusterState
   c = r.whole
 
   abbrev b : Between s r.log r.whole
@@ -261,18 +261,18 @@ module _ (s : Setting) (r : Running) (keeps : RunKeeps s r) (calm : IsCalm r.log
   pub owned_task : (w k : ℕ) (x : Worker) (task : OwnTask) → worker_at c w ≡ Some x → task_of (item_at x.objects k) ≡ Some task → IsOwned w k x task
   owned_task w k x task there e = by_object (item_at x.objects k) refl e
     where
-      by_maker : (object : Object) → item_at x.objects k ≡ Some object → (maker : Maker) →
-          KnowsMaker (past r.log b.asked) x.node x.objects (object_id w k) object maker →
-          task_in maker ≡ Some task → IsOwned w k x task
-      by_maker object at WasPut q f = absurd (cc)
-      by_maker object at (ByTask other) q f =
+      by_source : (object : Object) → item_at x.objects k ≡ Some object → (source : ObjectSource) →
+          KnowsSource (past r.log b.asked) x.node x.objects (object_id w k) object source →
+          task_in source ≡ Some task → IsOwned w k x task
+      by_source object at WasPut q f = absurd (cc)
+      by_source object at (ByTask other) q f =
           let same : other ≡ task = cc in
           record { object = object; at = at; knows = subst (KnowsTask (past r.log b.asked) (object_id w k) x.objects) same q.0 }
-      by_maker object at (Beside j) q f = absurd (cc)
+      by_source object at (Beside j) q f = absurd (cc)
 
       by_object : (o : Option Object) → item_at x.objects k ≡ o → task_of o ≡ Some task → IsOwned w k x task
       by_object None at f = absurd (cc)
-      by_object (Some object) at f = by_maker object at object.maker ((knows w x there).objects k object at).maker f
+      by_object (Some object) at f = by_source object at object.source ((knows w x there).objects k object at).source f
 
   -- ---- an attempt that was asked for, and not begun
 
@@ -357,17 +357,17 @@ module _ (s : Setting) (r : Running) (keeps : RunKeeps s r) (calm : IsCalm r.log
   home : (w : ℕ) (x : Worker) → worker_at c w ≡ Some x → (node : Node) × (node_at c x.node ≡ Some node)
   home w x at = keeps.step.leases.homes w x at
 
-  same_worker : (v w : ℕ) → ◌≡◌ {A = Party} (TheWorker v) (TheWorker w) → v ≡ w
+  same_worker : (v w : ℕ) → ◌≡◌ {A = Endpoint} (TheWorker v) (TheWorker w) → v ≡ w
   same_worker v w e = cc
 
   -- ---- a Give
 
-  record IsDone (a : Attempt) (t v n : ℕ) (spec : Birth) (k : ℕ) (handed : Handed) : Type 0 where
+  record IsDone (a : Attempt) (t v n : ℕ) (spec : Birth) (k : ℕ) (handed : CommitInput) : Type 0 where
     logs : Among (Begun a v) (happens c (Deliver k) handed).out.entries
-    sends : Sends (happens c (Deliver k) handed).out.letters (TheWorker a.object.owner) (TheWorker v) (Push a spec)
+    sends : Sends (happens c (Deliver k) handed).out.envelopes (TheWorker a.object.owner) (TheWorker v) (Push a spec)
 
-  give : (n : ℕ) (a : Attempt) (t v k : ℕ) (spec : Birth) (handed : Handed) →
-      item_at c.network k ≡ Some (letter (TheNode n) (TheWorker a.object.owner) (Give a t v)) →
+  give : (n : ℕ) (a : Attempt) (t v k : ℕ) (spec : Birth) (handed : CommitInput) →
+      item_at c.network k ≡ Some (envelope (TheNode n) (TheWorker a.object.owner) (Give a t v)) →
       IsUnbegun (seen s r) a → birth_at (births r.log) a.object ≡ Some spec → IsDone a t v n spec k handed
   give n a t v k spec handed sent unbegun born =
       let came = among_at c.network k _ sent in
@@ -378,7 +378,7 @@ module _ (s : Setting) (r : Running) (keeps : RunKeeps s r) (calm : IsCalm r.log
         | inr (_, passed) ↦ absurd (unpassed came passed)
       ] in
       let node = home a.object.owner q.owner q.there in
-      let h : Here = here c a.object.owner q.owner node.0 in
+      let h : WorkerContext = here c a.object.owner q.owner node.0 in
       let done = give_is_begun h n a t v q.task (found a q node.0) (asked_now a q t now) in
       let is : attempt a.object q.task.number ≡ a = ap (attempt a.object) q.number in
       let out = delivery c k a.object.owner (TheNode n) (Give a t v) q.owner node.0 sent q.there (live_worker a.object.owner q.owner q.there) node.1 handed in
@@ -386,17 +386,17 @@ module _ (s : Setting) (r : Running) (keeps : RunKeeps s r) (calm : IsCalm r.log
       record {
         logs = subst (λ o. Among (Begun a v) o.entries) (sym out) (subst (λ i. Among (Begun i v) (release_step (reached h (TheNode n)
             (Give a t v))).there.out.entries) is done.0);
-        sends = subst (λ o. Sends o.letters (TheWorker a.object.owner) (TheWorker v) (Push a spec)) (sym out)
-            (subst (λ y. Sends (release_step (reached h (TheNode n) (Give a t v))).there.out.letters (TheWorker a.object.owner) (TheWorker v)
+        sends = subst (λ o. Sends o.envelopes (TheWorker a.object.owner) (TheWorker v) (Push a spec)) (sym out)
+            (subst (λ y. Sends (release_step (reached h (TheNode n) (Give a t v))).there.out.envelopes (TheWorker a.object.owner) (TheWorker v)
             (Push a y)) specs
-            (subst (λ i. Sends (release_step (reached h (TheNode n) (Give a t v))).there.out.letters (TheWorker a.object.owner) (TheWorker v)
+            (subst (λ i. Sends (release_step (reached h (TheNode n) (Give a t v))).there.out.envelopes (TheWorker a.object.owner) (TheWorker v)
             (Push i q.task.spec)) is done.1));
       }
     where
       same_birth : (x y : Birth) → ◌≡◌ {A = Option Birth} (Some x) (Some y) → x ≡ y
       same_birth x y e = cc
 
-      unpassed : Among (letter (TheNode n) (TheWorker a.object.owner) (Give a t v)) c.network →
+      unpassed : Among (envelope (TheNode n) (TheWorker a.object.owner) (Give a t v)) c.network →
           IsPassed (IsDeadNode c) c.network a t n → ⊥
       unpassed came (inr dead) = alive n dead
       unpassed came (inl (m, on)) =
@@ -404,16 +404,16 @@ module _ (s : Setting) (r : Running) (keeps : RunKeeps s r) (calm : IsCalm r.log
           let told = (keeps.right.each n x.0 x.1).replies.told in
           one_answer _ a t v m (told a t (Give a t v) (inl (v, refl)) came) (told a t (Elsewhere a t m) (inr (inl (m, refl))) on)
 
-  pub give_is_paid : (n w : ℕ) (a : Attempt) (t v k : ℕ) (spec : Birth) (handed : Handed) →
-      item_at c.network k ≡ Some (letter (TheNode n) (TheWorker w) (Give a t v)) →
+  pub give_is_paid : (n w : ℕ) (a : Attempt) (t v k : ℕ) (spec : Birth) (handed : CommitInput) →
+      item_at c.network k ≡ Some (envelope (TheNode n) (TheWorker w) (Give a t v)) →
       IsUnbegun (seen s r) a → birth_at (births r.log) a.object ≡ Some spec →
       Among (Begun a v) (happens c (Deliver k) handed).out.entries ×
-      Sends (happens c (Deliver k) handed).out.letters (TheWorker w) (TheWorker v) (Push a spec)
+      Sends (happens c (Deliver k) handed).out.envelopes (TheWorker w) (TheWorker v) (Push a spec)
   give_is_paid n w a t v k spec handed sent unbegun born =
-      let own : w ≡ a.object.owner = same_worker w a.object.owner (keeps.routes.letters _ (among_at c.network k _ sent)) in
-      let d : IsDone a t v n spec k handed = give n a t v k spec handed (subst (λ u. item_at c.network k ≡ Some (letter (TheNode n) (TheWorker u)
+      let own : w ≡ a.object.owner = same_worker w a.object.owner (keeps.routes.envelopes _ (among_at c.network k _ sent)) in
+      let d : IsDone a t v n spec k handed = give n a t v k spec handed (subst (λ u. item_at c.network k ≡ Some (envelope (TheNode n) (TheWorker u)
       (Give a t v))) own sent) unbegun born in
-      (d.logs, subst (λ u. Sends (happens c (Deliver k) handed).out.letters (TheWorker u) (TheWorker v) (Push a spec)) (sym own) d.sends)
+      (d.logs, subst (λ u. Sends (happens c (Deliver k) handed).out.envelopes (TheWorker u) (TheWorker v) (Push a spec)) (sym own) d.sends)
 
   -- ---- an Elsewhere
 
@@ -425,23 +425,23 @@ module _ (s : Setting) (r : Running) (keeps : RunKeeps s r) (calm : IsCalm r.log
       let f = keeps.routes.follow a (t + i) n (subst (λ u. Asked c.network a u n) same e) in
       asked_below a t i f.0 f.1
 
-  elsewhere : (n : ℕ) (a : Attempt) (t m k : ℕ) (handed : Handed) →
-      item_at c.network k ≡ Some (letter (TheNode n) (TheWorker a.object.owner) (Elsewhere a t m)) →
+  elsewhere : (n : ℕ) (a : Attempt) (t m k : ℕ) (handed : CommitInput) →
+      item_at c.network k ≡ Some (envelope (TheNode n) (TheWorker a.object.owner) (Elsewhere a t m)) →
       ((j : ℕ) → Sends c.network (TheWorker a.object.owner) (TheNode j) (Ask a (t + 1)) → ⊥) → IsUnbegun (seen s r) a →
-      Sends (happens c (Deliver k) handed).out.letters (TheWorker a.object.owner) (TheNode m) (Ask a (t + 1))
+      Sends (happens c (Deliver k) handed).out.envelopes (TheWorker a.object.owner) (TheNode m) (Ask a (t + 1))
   elsewhere n a t m k handed sent latest unbegun =
       let came = among_at c.network k _ sent in
       let asked : Asked c.network a t n = answer_asked c keeps.right keeps.asks n t a (Elsewhere a t m) (inr (inl (m, refl))) came in
       let q : IsAskedFor a = asked_for a unbegun (inl (t, n, asked)) in
       let now : q.t ≡ t = elim (last_ask a q t n asked) [ inl (same, _) ↦ sym same | inr (less, _) ↦ absurd (earlier q less) ] in
       let node = home a.object.owner q.owner q.there in
-      let h : Here = here c a.object.owner q.owner node.0 in
+      let h : WorkerContext = here c a.object.owner q.owner node.0 in
       let done = elsewhere_is_asked h n a t m q.task (found a q node.0) (asked_now a q t now) (no_dead a.object.owner q.owner q.there) in
       let is : attempt a.object q.task.number ≡ a = ap (attempt a.object) q.number in
       let out = delivery c k a.object.owner (TheNode n) (Elsewhere a t m) q.owner node.0 sent q.there
       (live_worker a.object.owner q.owner q.there) node.1 handed in
-      subst (λ o. Sends o.letters (TheWorker a.object.owner) (TheNode m) (Ask a (t + 1))) (sym out)
-      (subst (λ i. Sends (release_step (reached h (TheNode n) (Elsewhere a t m))).there.out.letters (TheWorker a.object.owner) (TheNode m) (Ask i
+      subst (λ o. Sends o.envelopes (TheWorker a.object.owner) (TheNode m) (Ask a (t + 1))) (sym out)
+      (subst (λ i. Sends (release_step (reached h (TheNode n) (Elsewhere a t m))).there.out.envelopes (TheWorker a.object.owner) (TheNode m) (Ask i
       (t + 1))) is done)
     where
       earlier : (q : IsAskedFor a) → t < q.t → ⊥
@@ -451,7 +451,7 @@ module _ (s : Setting) (r : Running) (keeps : RunKeeps s r) (calm : IsCalm r.log
           ((keeps.routes.owners a.object.owner q.owner q.there).standing a.object.serial q.task q.t q.node q.own q.stands) in
           let gap = gap_of t q.t less in
           let f = asked_below a (t + 1) gap.0 q.node (subst (λ u. Asked c.network a u q.node) gap.1 standing) in
-          let by = same_worker f.1.0 a.object.owner (keeps.routes.letters _ f.1.1) in
+          let by = same_worker f.1.0 a.object.owner (keeps.routes.envelopes _ f.1.1) in
           latest f.0 (subst (λ u. Sends c.network (TheWorker u) (TheNode f.0) (Ask a (t + 1))) by f.1.1)
         where
           gap_of : (t u : ℕ) → t < u → (i : ℕ) × (u ≡ t + 1 + i)
@@ -459,21 +459,21 @@ module _ (s : Setting) (r : Running) (keeps : RunKeeps s r) (calm : IsCalm r.log
           gap_of zero (suc u) e = (u, omega arith)
           gap_of (suc t) (suc u) e = let g = gap_of t u (omega (arith, e)) in let f = g.1 in (g.0, omega (arith, f))
 
-  pub elsewhere_is_paid : (n w : ℕ) (a : Attempt) (t m k : ℕ) (handed : Handed) →
-      item_at c.network k ≡ Some (letter (TheNode n) (TheWorker w) (Elsewhere a t m)) →
+  pub elsewhere_is_paid : (n w : ℕ) (a : Attempt) (t m k : ℕ) (handed : CommitInput) →
+      item_at c.network k ≡ Some (envelope (TheNode n) (TheWorker w) (Elsewhere a t m)) →
       ((j : ℕ) → Sends c.network (TheWorker a.object.owner) (TheNode j) (Ask a (t + 1)) → ⊥) → IsUnbegun (seen s r) a →
-      Sends (happens c (Deliver k) handed).out.letters (TheWorker w) (TheNode m) (Ask a (t + 1))
+      Sends (happens c (Deliver k) handed).out.envelopes (TheWorker w) (TheNode m) (Ask a (t + 1))
   elsewhere_is_paid n w a t m k handed sent latest unbegun =
-      let own : w ≡ a.object.owner = same_worker w a.object.owner (keeps.routes.letters _ (among_at c.network k _ sent)) in
-      subst (λ u. Sends (happens c (Deliver k) handed).out.letters (TheWorker u) (TheNode m) (Ask a (t + 1))) (sym own)
-      (elsewhere n a t m k handed (subst (λ u. item_at c.network k ≡ Some (letter (TheNode n) (TheWorker u) (Elsewhere a t m))) own sent) latest unbegun)
+      let own : w ≡ a.object.owner = same_worker w a.object.owner (keeps.routes.envelopes _ (among_at c.network k _ sent)) in
+      subst (λ u. Sends (happens c (Deliver k) handed).out.envelopes (TheWorker u) (TheNode m) (Ask a (t + 1))) (sym own)
+      (elsewhere n a t m k handed (subst (λ u. item_at c.network k ≡ Some (envelope (TheNode n) (TheWorker u) (Elsewhere a t m))) own sent) latest unbegun)
 
 -- ---- births
 
-module _ (s : Setting) (r : Running) (keeps : RunKeeps s r) (calm : IsCalm r.log) (log : List Entry) (next : Whole)
+module _ (s : Setting) (r : Running) (keeps : RunKeeps s r) (calm : IsCalm r.log) (log : List Entry) (next : ClusterState)
     (step : IsInStep s log next) (asks : KeepsAsks next) (routes : KeepsRoutes next) (still : IsCalm log)
-    (event : Event) (seat : ℕ) (entries : List Entry) (letters : List Letter)
-    (grows : log ≡ r.log ++ In event seat ∷ entries) (sends : next.network ≡ r.whole.network ++ letters) where
+    (event : Event) (seat : ℕ) (entries : List Entry) (envelopes : List Envelope)
+    (grows : log ≡ r.log ++ In event seat ∷ entries) (sends : next.network ≡ r.whole.network ++ envelopes) where
   after : Running
   after = record { whole = next; log = log }
 
@@ -525,31 +525,31 @@ module _ (s : Setting) (r : Running) (keeps : RunKeeps s r) (calm : IsCalm r.log
           let was = q.1 in
           (no_break o task.number was.0 (q.2 was.0 was.1), ap (λ pr. rests_now pr && is_empty task.begun) e)
 
-      letter_of : (task.number ≡ 0) × (is_new task ≡ false) → Sends next.network (TheWorker o.owner) (TheNode x.node) (Ask (attempt o 0) 0)
-      letter_of old =
+      envelope_of : (task.number ≡ 0) × (is_new task ≡ false) → Sends next.network (TheWorker o.owner) (TheNode x.node) (Ask (attempt o 0) 0)
+      envelope_of old =
           let asked : Asked next.network (attempt o 0) 0 x.node = (routes.owners o.owner x at).first o.serial task own old.0 old.1 in
-          let by = same_party asked.0 o.owner (routes.letters _ asked.1) in
+          let by = same_endpoint asked.0 o.owner (routes.envelopes _ asked.1) in
           subst (λ u. Sends next.network (TheWorker u) (TheNode x.node) (Ask (attempt o 0) 0)) by asked.1
         where
-          same_party : (v w : ℕ) → ◌≡◌ {A = Party} (TheWorker v) (TheWorker w) → v ≡ w
-          same_party v w e = cc
+          same_endpoint : (v w : ℕ) → ◌≡◌ {A = Endpoint} (TheWorker v) (TheWorker w) → v ≡ w
+          same_endpoint v w e = cc
 
-      by_maker : (object : Object) (maker : Maker) → KnowsMaker (past log d.asked) x.node x.objects o object maker → task_in maker ≡ Some task →
+      by_source : (object : Object) (source : ObjectSource) → KnowsSource (past log d.asked) x.node x.objects o object source → task_in source ≡ Some task →
           Sends next.network (TheWorker o.owner) (TheNode x.node) (Ask (attempt o 0) 0)
-      by_maker object WasPut q f = absurd (cc)
-      by_maker object (ByTask other) q f =
+      by_source object WasPut q f = absurd (cc)
+      by_source object (ByTask other) q f =
           let same : other ≡ task = cc in
           let t : KnowsTask (past log d.asked) o x.objects task = subst (KnowsTask (past log d.asked) o x.objects) same q.0 in
-          letter_of (by_progress task.progress refl t.progress)
-      by_maker object (Beside j) q f = absurd (cc)
+          envelope_of (by_progress task.progress refl t.progress)
+      by_source object (Beside j) q f = absurd (cc)
 
       by_object : (p : Option Object) → item_at x.objects o.serial ≡ p → task_of p ≡ Some task →
           Sends next.network (TheWorker o.owner) (TheNode x.node) (Ask (attempt o 0) 0)
       by_object None e f = absurd (cc)
-      by_object (Some object) e f = by_maker object object.maker (k.objects o.serial object e).maker f
+      by_object (Some object) e f = by_source object object.source (k.objects o.serial object e).source f
 
   birth_is_paid : (o : Id) (a : Attempt) (f : Name) (args : List Argument) (depth retries others n : ℕ) → Among (Born o a (Task f args depth retries others)) entries →
-      node_of o.owner log ≡ Some n → Sends letters (TheWorker o.owner) (TheNode n) (Ask (attempt o 0) 0)
+      node_of o.owner log ≡ Some n → Sends envelopes (TheWorker o.owner) (TheNode n) (Ask (attempt o 0) 0)
   birth_is_paid o a f args depth retries others n born place =
       let x = lives_there s log next d o.owner (calm_live log o.owner n still place) in
       let k = d.knows.workers o.owner x.0 x.1 x.2 in
@@ -567,13 +567,13 @@ module _ (s : Setting) (r : Running) (keeps : RunKeeps s r) (calm : IsCalm r.log
       behind [] y es z e = (suc e.0, e.1)
       behind (x ∷ xs) y es z e = let g = behind xs y es z e in (suc g.0, g.1)
 
-      -- the letter is no older than the event
-      new_letter : (x : Worker) → x.node ≡ n → Sends next.network (TheWorker o.owner) (TheNode x.node) (Ask (attempt o 0) 0) →
-          Sends letters (TheWorker o.owner) (TheNode n) (Ask (attempt o 0) 0)
-      new_letter x node sent = elim (among-append_cases r.whole.network letters _ (subst (λ ls. Sends ls (TheWorker o.owner) (TheNode x.node) (Ask
+      -- the envelope is no older than the event
+      new_envelope : (x : Worker) → x.node ≡ n → Sends next.network (TheWorker o.owner) (TheNode x.node) (Ask (attempt o 0) 0) →
+          Sends envelopes (TheWorker o.owner) (TheNode n) (Ask (attempt o 0) 0)
+      new_envelope x node sent = elim (among-append_cases r.whole.network envelopes _ (subst (λ ls. Sends ls (TheWorker o.owner) (TheNode x.node) (Ask
           (attempt o 0) 0)) sends sent)) [
             | inl old ↦ absurd (unasked o a (Task f args depth retries others) born x.node (o.owner, old))
-            | inr new ↦ subst (λ m. Sends letters (TheWorker o.owner) (TheNode m) (Ask (attempt o 0) 0)) node new
+            | inr new ↦ subst (λ m. Sends envelopes (TheWorker o.owner) (TheNode m) (Ask (attempt o 0) 0)) node new
           ]
 
       is_task : (value : Value) → birth_at (births log) o ≡ Some (Task f args depth retries others) → birth_at (births log) o ≡ Some (Put value) → ⊥
@@ -581,8 +581,8 @@ module _ (s : Setting) (r : Running) (keeps : RunKeeps s r) (calm : IsCalm r.log
 
       by_task : (x : Worker) → worker_at next o.owner ≡ Some x → KnowsWorker (setting_of s next) (past log d.asked) o.owner x →
           birth_at (births log) o ≡ Some (Task f args depth retries others) → x.node ≡ n → (p : Option OwnTask) → task_of (item_at x.objects o.serial) ≡ p →
-          Sends letters (TheWorker o.owner) (TheNode n) (Ask (attempt o 0) 0)
-      by_task x at k stands node (Some task) e = new_letter x node (asked_first o x at task e k)
+          Sends envelopes (TheWorker o.owner) (TheNode n) (Ask (attempt o 0) 0)
+      by_task x at k stands node (Some task) e = new_envelope x node (asked_first o x at task e k)
       by_task x at k stands node None e = absurd (by_object (item_at x.objects o.serial) refl e)
         where
           same_first : (u v : Part) → ◌≡◌ {A = Option Part} (Some u) (Some v) → u.born.object ≡ v.born.object
@@ -592,10 +592,10 @@ module _ (s : Setting) (r : Running) (keeps : RunKeeps s r) (calm : IsCalm r.log
           no_task t h = cc
 
           -- an object beside the first of its task is first in no birth
-          by_maker : (object : Object) (maker : Maker) → KnowsMaker (past log d.asked) x.node x.objects o object maker → task_in maker ≡ None → ⊥
-          by_maker object WasPut q g = is_task q.value stands q.born
-          by_maker object (ByTask other) q g = absurd (cc)
-          by_maker object (Beside j) q g =
+          by_source : (object : Object) (source : ObjectSource) → KnowsSource (past log d.asked) x.node x.objects o object source → task_in source ≡ None → ⊥
+          by_source object WasPut q g = is_task q.value stands q.born
+          by_source object (ByTask other) q g = absurd (cc)
+          by_source object (Beside j) q g =
               let sane : Sane log = legal_logs_are_sane (setting_of s next) log legal in
               let first : o ≡ object_id o.owner j = same_first (part_of (record { object = o; birth = Task f args depth retries others }) o) _
               (sym (sane.grouped.whole o o (Task f args depth retries others) stands (first_is_made (record { object = o; birth = Task f args depth retries others })))
@@ -604,7 +604,7 @@ module _ (s : Setting) (r : Running) (keeps : RunKeeps s r) (calm : IsCalm r.log
               no_task q.0 (sym e ∙ row)
 
           by_object : (p : Option Object) → item_at x.objects o.serial ≡ p → task_of p ≡ None → ⊥
-          by_object (Some object) i g = by_maker object object.maker (k.objects o.serial object i).maker g
+          by_object (Some object) i g = by_source object object.source (k.objects o.serial object i).source g
           by_object None i g = missing i (sane.serials o (born_if_first (births log) o (Task f args depth retries others) stands)) k.serial
             where
               sane : Sane log
@@ -653,7 +653,7 @@ gives_are_begun s slots some slot apart gs right g step is taken calm = λ n w a
     let same : (happens r.whole (Deliver brings.0) g.handed).out ≡ (happens r.whole g.event g.handed).out =
     ap (λ e. (happens r.whole e g.handed).out) (sym brings.1) in (
       subst (λ es. Among (Begun a v) es) (ap (λ (o : Outbox). o.entries) same ∙ sym k.entries) f.0,
-      subst (λ ls. Sends ls (TheWorker w) (TheWorker v) (Push a spec)) (ap (λ (o : Outbox). o.letters) same ∙ sym k.letters) f.1,
+      subst (λ ls. Sends ls (TheWorker w) (TheWorker v) (Push a spec)) (ap (λ (o : Outbox). o.envelopes) same ∙ sym k.envelopes) f.1,
     )
 
 pub elsewheres_are_asked : ElsewheresAreAsked
@@ -664,7 +664,7 @@ elsewheres_are_asked s slots some slot apart gs right g step is taken calm = λ 
     (calm_so_far r g step taken calm) n w a t m brings.0 g.handed brings.2 latest unbegun in
     let same : (happens r.whole (Deliver brings.0) g.handed).out ≡ (happens r.whole g.event g.handed).out =
     ap (λ e. (happens r.whole e g.handed).out) (sym brings.1) in
-    subst (λ ls. Sends ls (TheWorker w) (TheNode m) (Ask a (t + 1))) (ap (λ (o : Outbox). o.letters) same ∙ sym k.letters) f
+    subst (λ ls. Sends ls (TheWorker w) (TheNode m) (Ask a (t + 1))) (ap (λ (o : Outbox). o.envelopes) same ∙ sym k.envelopes) f
 
 pub births_are_asked : BirthsAreAsked
 births_are_asked s slots some slot apart gs right g step is taken calm = λ o a f args depth retries others n born place.
@@ -672,7 +672,7 @@ births_are_asked s slots some slot apart gs right g step is taken calm = λ o a 
     let k : IsTaken r.whole g.event g.handed step = is_taken r.whole g.event g.handed step taken in
     let next : RunKeeps s (after_event r g) = next_keeps s slots some slot apart gs right g is in
     birth_is_paid s r (runs_keep s slots some slot apart gs right) (calm_so_far r g step taken calm) (after_event r g).log (after_event r g).whole
-    next.step next.asks next.routes calm g.event g.seat step.entries step.letters (last_log r g step taken)
-    (ap (λ (c : Whole). c.network) (last_whole r g step taken ∙ k.whole) ∙ happens_network r.whole g.event g.handed ∙
-    ap (λ ls. r.whole.network ++ ls) (sym k.letters))
+    next.step next.asks next.routes calm g.event g.seat step.entries step.envelopes (last_log r g step taken)
+    (ap (λ (c : ClusterState). c.network) (last_whole r g step taken ∙ k.whole) ∙ happens_network r.whole g.event g.handed ∙
+    ap (λ ls. r.whole.network ++ ls) (sym k.envelopes))
     o a f args depth retries others n born place

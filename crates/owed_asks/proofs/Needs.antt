@@ -14,16 +14,16 @@ use Rattle.event_log.specs.Breaks.{Among}
 use Rattle.protocol.specs.Numbered.{changed_at, item_at}
 use Rattle.protocol.specs.Sets.{fault, repeated}
 use Rattle.protocol.specs.Messages.{CopyOf, TheNode, TheWorker, Where}
-use Rattle.protocol.specs.Jobs.{AtEnd, AtGet, Given, Handed, Nothing, OfAnother, OfJob, Outcomes, Stopped, stop_of}
+use Rattle.protocol.specs.Jobs.{AtEnd, AtGet, JobRecord, CommitInput, Nothing, OfAnother, OfJob, Outcomes, Stopped, stop_of}
 use Rattle.protocol.specs.Nodes.{Node, Outbox}
-use Rattle.protocol.specs.Tables.{Fetching, HasEnded, HasFaulted, Run, Waits, Worker, is_waiting_for, knows_dead, new_worker}
+use Rattle.protocol.specs.Tables.{Fetching, HasEnded, HasFaulted, Execution, Waits, Worker, is_waiting_for, knows_dead, new_worker}
 use Rattle.protocol.specs.Tables.{needed_by, object_needed}
-use Rattle.protocol.specs.Steps.{Here, is_own, logs, logs_all, says, with_phase, with_run}
+use Rattle.protocol.specs.Steps.{WorkerContext, is_own, logs, logs_all, says, with_phase, with_run}
 use Rattle.protocol.specs.Runs.{faults, gives_slot_back, leaves_if_free}
 use Rattle.protocol.specs.Commits.{keeps_contents, asks_where, bears_all, commit_by, commit_step, ends, needs, next_id_here, rests_if_waiting, stops_by, with_outcomes}
 use Rattle.protocol.specs.Releases.{release_step}
 use Rattle.protocol.specs.Deliveries.{reached}
-use Rattle.protocol.specs.Whole.{Whole, after_worker, here, node_at, worker_at, worker_does_at, worker_does_by}
+use Rattle.protocol.specs.Cluster.{ClusterState, after_worker, here, node_at, worker_at, worker_does_at, worker_does_by}
 use Rattle.protocol.specs.Events.{committed_by, happens, is_live_worker, with_committed, objects_made}
 use Rattle.protocol.specs.Answers.{Step, Takes, decided}
 use Rattle.protocol.specs.Places.{needs_own}
@@ -52,12 +52,12 @@ use Rattle.owed_asks.proofs.Waiting.{WaitsOnly, asks_where-waits, release_step-w
 pub copies_are_got : CopiesAreGot
 copies_are_got s slots some slot apart gs right g step is taken calm = λ n w a y number content brings waits.
     let r : Running = after_events (opening_run s.nodes slots) gs in
-    let c : Whole = r.whole in
+    let c : ClusterState = r.whole in
     let keeps : RunKeeps s r = runs_keep s slots some slot apart gs right in
     let k : IsTaken c g.event g.handed step = is_taken c g.event g.handed step taken in
     let x : IsWaitingHere c w a y = waits_for s r keeps.step w a y waits in
     let node = keeps.step.leases.homes w x.worker x.there in
-    let h : Here = here c w x.worker node.0 in
+    let h : WorkerContext = here c w x.worker node.0 in
     let got = copy_is_got h n y number content x.run x.at (ap object_needed x.waits) in
     let out = delivery c brings.0 w (TheNode n) (CopyOf y number content) x.worker node.0 brings.2 x.there x.lives node.1 g.handed in
     let same : step.entries ≡ (happens c (Deliver brings.0) g.handed).out.entries =
@@ -68,10 +68,10 @@ copies_are_got s slots some slot apart gs right g step is taken calm = λ n w a 
 -- ---- how far an attempt is
 
 module _ (T : ℕ → Attempt → Type 0) (O : Attempt → Type 0) (V : ℕ → ℕ → Attempt → ℕ → Type 0) (p : Pace) (going : p ≡ Rests → ⊥) where
-  abbrev PaceIs : Here → Type 0
+  abbrev PaceIs : WorkerContext → Type 0
   PaceIs h = pace_by h.worker.run ≡ p
 
-  waits_no : (h : Here) (run : Run) (y : Id) (f : Option Fetching) → h.worker.run ≡ Some run → run.phase ≡ Waits y f → PaceIs h → ⊥
+  waits_no : (h : WorkerContext) (run : Execution) (y : Id) (f : Option Fetching) → h.worker.run ≡ Some run → run.phase ≡ Waits y f → PaceIs h → ⊥
   waits_no h run y f e q u = going (sym u ∙ ap pace_by e ∙ ap pace_in q)
 
   -- one that doesn't wait is as far as it was
@@ -107,7 +107,7 @@ goes_rests e = absurd (cc)
 stopped_rests : HasStopped ≡ Rests → ⊥
 stopped_rests e = absurd (cc)
 
-abbrev HasStoppedHere : Here → Type 0
+abbrev HasStoppedHere : WorkerContext → Type 0
 HasStoppedHere h = pace_by h.worker.run ≡ HasStopped
 
 stopped_kept : IsKept AnyTold AnyOver GivenBy AnyPassed HasStoppedHere
@@ -122,35 +122,35 @@ other_owner m n apart = at_test (λ b. (m == n) ≡ b → (m == n) ≡ false) (m
     same m n e = grind (arith, nat_tests)
 
 -- where it waits for another worker's object at the end, it has asked for that
-abbrev AsksOwner : ℕ → Here → Type 0
+abbrev AsksOwner : ℕ → WorkerContext → Type 0
 AsksOwner me g =
-    (last : Run) (y : Id) (f : Option Fetching) → g.worker.run ≡ Some last → last.phase ≡ Waits y f → y.owner ≢ me →
-    Sends g.there.out.letters (TheWorker me) (TheWorker y.owner) (Where y)
+    (last : Execution) (y : Id) (f : Option Fetching) → g.worker.run ≡ Some last → last.phase ≡ Waits y f → y.owner ≢ me →
+    Sends g.there.out.envelopes (TheWorker me) (TheWorker y.owner) (Where y)
 
-stopped_asks : (me : ℕ) (g : Here) → HasStoppedHere g → AsksOwner me g
+stopped_asks : (me : ℕ) (g : WorkerContext) → HasStoppedHere g → AsksOwner me g
 stopped_asks me g stopped last y f at waits apart = absurd (stopped_rests (sym stopped ∙ ap pace_by at ∙ ap pace_in waits))
 
-stopped_by_death : (b : Here) (run : Run) (z : Id) → HasStoppedHere (faults (with_phase b run (Waits z None)) (fault OwnerDied z))
+stopped_by_death : (b : WorkerContext) (run : Execution) (z : Id) → HasStoppedHere (faults (with_phase b run (Waits z None)) (fault OwnerDied z))
 stopped_by_death b run z =
-    let h : Here = with_phase b run (Waits z None) in
-    let waiting : Run = record run { phase = Waits z None } in
-    let g : Here = gives_slot_back (logs (with_phase h waiting (HasFaulted (fault OwnerDied z))) (Faulted run.attempt z (fault OwnerDied z))) in
+    let h : WorkerContext = with_phase b run (Waits z None) in
+    let waiting : Execution = record run { phase = Waits z None } in
+    let g : WorkerContext = gives_slot_back (logs (with_phase h waiting (HasFaulted (fault OwnerDied z))) (Faulted run.attempt z (fault OwnerDied z))) in
     leaves_if_free-kept AnyTold AnyOver GivenBy AnyPassed HasStoppedHere stopped_kept g refl
 
-needs_asks : (b : Here) (run : Run) (z : Id) → AsksOwner b.me (release_step (needs b run z))
+needs_asks : (b : WorkerContext) (run : Execution) (z : Id) → AsksOwner b.me (release_step (needs b run z))
 needs_asks b run z last y f at waits apart =
-    let h : Here = with_phase b run (Waits z None) in
-    let g : Here = asks_where h z in
+    let h : WorkerContext = with_phase b run (Waits z None) in
+    let g : WorkerContext = asks_where h z in
     let only : WaitsOnly z g = asks_where-waits z h (λ i e. same_needed z i e) in
     let rests : WaitsOnly z (rests_if_waiting g z) =
     at_test (λ t. WaitsOnly z (if t then gives_slot_back g else g)) (is_waiting_for g.worker z) (λ _. only) (λ _. only) in
     let end : WaitsOnly z (release_step (needs b run z)) = release_step-waits z (needs b run z) rests in
     let is : y ≡ z = end y (ap needed_by at ∙ ap object_needed waits) in
     let foreign : is_own b z ≡ false = other_owner z.owner b.me (λ e. apart (ap (λ (i : Id). i.owner) is ∙ e)) in
-    at_test (λ t. knows_dead b.worker z.owner ≡ t → Sends (release_step (needs b run z)).there.out.letters (TheWorker b.me) (TheWorker y.owner) (Where y))
+    at_test (λ t. knows_dead b.worker z.owner ≡ t → Sends (release_step (needs b run z)).there.out.envelopes (TheWorker b.me) (TheWorker y.owner) (Where y))
     (knows_dead b.worker z.owner)
     (λ _ e. stopped_asks b.me (release_step (needs b run z)) (dead foreign e) last y f at waits apart)
-    (λ _ e. subst (λ i. Sends (release_step (needs b run z)).there.out.letters (TheWorker b.me) (TheWorker i.owner) (Where i)) (sym is)
+    (λ _ e. subst (λ i. Sends (release_step (needs b run z)).there.out.envelopes (TheWorker b.me) (TheWorker i.owner) (Where i)) (sym is)
     (sent_after _ (needs b run z) (foreign_need_is_asked b run z foreign e))) refl
   where
     same_needed : (z i : Id) → ◌≡◌ {A = Option Id} (Some z) (Some i) → i ≡ z
@@ -158,7 +158,7 @@ needs_asks b run z last y f at waits apart =
 
     dead : is_own b z ≡ false → knows_dead b.worker z.owner ≡ true → HasStoppedHere (release_step (needs b run z))
     dead foreign e =
-        let h : Here = with_phase b run (Waits z None) in
+        let h : WorkerContext = with_phase b run (Waits z None) in
         let asked : HasStoppedHere (asks_where h z) =
         subst (λ t. HasStoppedHere (if t then needs_own h z else if knows_dead b.worker z.owner then faults h (fault OwnerDied z) else says h z.owner
         (Where z))) (sym foreign)
@@ -168,27 +168,27 @@ needs_asks b run z last y f at waits apart =
         (λ _. asked) (λ _. asked) in
         release_step-kept AnyTold AnyOver GivenBy AnyPassed HasStoppedHere stopped_kept (needs b run z) rested
 
-ends_asks : (b : Here) (run : Run) (cs : List Outcome) → AsksOwner b.me (release_step (ends b run cs))
+ends_asks : (b : WorkerContext) (run : Execution) (cs : List Outcome) → AsksOwner b.me (release_step (ends b run cs))
 ends_asks b run cs =
-    let g : Here = with_phase b run (HasEnded cs) in
+    let g : WorkerContext = with_phase b run (HasEnded cs) in
     let held : HasStoppedHere (leaves_if_free (keeps_contents g run.attempt.object run.attempt.number cs)) =
     leaves_if_free-kept AnyTold AnyOver GivenBy AnyPassed HasStoppedHere stopped_kept (keeps_contents g run.attempt.object run.attempt.number cs)
     (keeps_contents-kept AnyTold AnyOver GivenBy AnyPassed HasStoppedHere stopped_kept g run.attempt.object run.attempt.number cs refl) in
     stopped_asks b.me (release_step (ends b run cs)) (release_step-kept AnyTold AnyOver GivenBy AnyPassed HasStoppedHere stopped_kept (ends b run cs) held)
 
-stops_ask : (b : Here) (stop : Stopped) (r : Option Run) → pace_by r ≡ GoesOn → AsksOwner b.me (release_step (stops_by b stop r))
+stops_ask : (b : WorkerContext) (stop : Stopped) (r : Option Execution) → pace_by r ≡ GoesOn → AsksOwner b.me (release_step (stops_by b stop r))
 stops_ask b stop None e = absurd (stopped_not e)
 stops_ask b (AtGet z) (Some run) e = needs_asks b run z
 stops_ask b (AtEnd cs) (Some run) e = ends_asks b run cs
 
-commit_asks : (h : Here) (o : Outcomes) (run : Run) → h.worker.run ≡ Some run → AsksOwner h.me (release_step (commit_step h o))
+commit_asks : (h : WorkerContext) (o : Outcomes) (run : Execution) → h.worker.run ≡ Some run → AsksOwner h.me (release_step (commit_step h o))
 commit_asks h o run e = subst (λ r. AsksOwner h.me (release_step (commit_by h o r))) (sym e) by_run
   where
     by_run : AsksOwner h.me (release_step (commit_by h o (Some run)))
     by_run =
         let es : List Entry = commit_entries run.attempt (next_id_here h) o.births o.prints (stop_of o.stop) in
-        let g : Here = logs_all (with_run h (with_outcomes run o)) es in
-        let borne : Here = bears_all g run.attempt o.births in
+        let g : WorkerContext = logs_all (with_run h (with_outcomes run o)) es in
+        let borne : WorkerContext = bears_all g run.attempt o.births in
         let goes : pace_by borne.worker.run ≡ GoesOn =
         bears_all-kept AnyTold AnyOver GivenBy AnyPassed (λ z. pace_by z.worker.run ≡ GoesOn)
         (pace_kept AnyTold AnyOver GivenBy GoesOn goes_rests) g run.attempt o.births refl in
@@ -197,7 +197,7 @@ commit_asks h o run e = subst (λ r. AsksOwner h.me (release_step (commit_by h o
 
 -- ---- the commit of a job
 
-from_mapped : (f : Given → ℕ) (xs : List Given) (k w : ℕ) → from_one (map f xs) k ≡ Some w → (x : Given) × (item_at xs k ≡ Some x) × (w ≡ f x)
+from_mapped : (f : JobRecord → ℕ) (xs : List JobRecord) (k w : ℕ) → from_one (map f xs) k ≡ Some w → (x : JobRecord) × (item_at xs k ≡ Some x) × (w ≡ f x)
 from_mapped f xs zero w e = absurd (cc)
 from_mapped f xs (suc i) w e = item_mapped f xs (suc i) w e
 
@@ -205,16 +205,16 @@ some_worker : (o : Option Worker) → is_live_worker o ≡ true → (x : Worker)
 some_worker None e = absurd (cc)
 some_worker (Some x) e = (x, refl, e)
 
-some_job : (handed : Handed) → is_of_job handed ≡ true → (d : Outcomes) × (handed ≡ OfJob d)
+some_job : (handed : CommitInput) → is_of_job handed ≡ true → (d : Outcomes) × (handed ≡ OfJob d)
 some_job Nothing e = absurd (cc)
 some_job OfAnother e = absurd (cc)
 some_job (OfJob d) e = (d, refl)
 
-unrefused_so : (c : Whole) (e : Event) (handed : Handed) (step : Step) (code : Option Refusal) → decided c e handed code ≡ Takes step → code ≡ None
+unrefused_so : (c : ClusterState) (e : Event) (handed : CommitInput) (step : Step) (code : Option Refusal) → decided c e handed code ≡ Takes step → code ≡ None
 unrefused_so c e handed step None f = refl
 unrefused_so c e handed step (Some code) f = absurd (cc)
 
-module _ (c : Whole) (j w : ℕ) (handed : Handed) (g : Given) (at : item_at c.jobs j ≡ Some g) (worker_is : g.worker ≡ w) (taken : refusal c
+module _ (c : ClusterState) (j w : ℕ) (handed : CommitInput) (g : JobRecord) (at : item_at c.jobs j ≡ Some g) (worker_is : g.worker ≡ w) (taken : refusal c
     (Commit j) handed ≡ None)
     (homes : (v : ℕ) (x : Worker) → worker_at c v ≡ Some x → (node : Node) × (node_at c x.node ≡ Some node)) where
   open_so : commit_refusal c j handed (Some g) ≡ None
@@ -235,20 +235,20 @@ module _ (c : Whole) (j w : ℕ) (handed : Handed) (g : Given) (at : item_at c.j
   who : (x : Worker) × (worker_at c g.worker ≡ Some x) × (x.is_live ≡ true)
   who = some_worker (worker_at c g.worker) (passed (is_live_worker (worker_at c g.worker)) Stale two.1)
 
-  commit_of_job : (y : Id) (f : Option Fetching) (x : Worker) (last : Run) → worker_at (happens c (Commit j) handed).whole w ≡ Some x → x.run ≡ Some last →
-      last.phase ≡ Waits y f → y.owner ≢ w → Sends (happens c (Commit j) handed).out.letters (TheWorker w) (TheWorker y.owner) (Where y)
+  commit_of_job : (y : Id) (f : Option Fetching) (x : Worker) (last : Execution) → worker_at (happens c (Commit j) handed).whole w ≡ Some x → x.run ≡ Some last →
+      last.phase ≡ Waits y f → y.owner ≢ w → Sends (happens c (Commit j) handed).out.envelopes (TheWorker w) (TheWorker y.owner) (Where y)
   commit_of_job y f x last there run waits apart =
-      subst (λ v. Sends (happens c (Commit j) handed).out.letters (TheWorker v) (TheWorker y.owner) (Where y)) worker_is
-      (subst (λ m. Sends m.out.letters (TheWorker g.worker) (TheWorker y.owner) (Where y)) (sym made)
+      subst (λ v. Sends (happens c (Commit j) handed).out.envelopes (TheWorker v) (TheWorker y.owner) (Where y)) worker_is
+      (subst (λ m. Sends m.out.envelopes (TheWorker g.worker) (TheWorker y.owner) (Where y)) (sym made)
       (commit_asks start done.0 out.run out.at last y f (ap (λ (z : Worker). z.run) same ∙ run) waits (λ e. apart (e ∙ worker_is))))
     where
-      d : Whole
+      d : ClusterState
       d = with_committed c j (objects_made done.0.births)
 
       node : (node : Node) × (node_at c who.0.node ≡ Some node)
       node = homes g.worker who.0 who.1
 
-      start : Here
+      start : WorkerContext
       start = here d g.worker who.0 node.0
 
       out : OutOf who.0.run j
@@ -274,16 +274,16 @@ module _ (c : Whole) (j w : ℕ) (handed : Handed) (g : Given) (at : item_at c.j
 pub new_foreign_waits_are_asked : NewForeignWaitsAreAsked
 new_foreign_waits_are_asked s slots some slot apart gs right g step is taken calm = λ w a y new foreign.
     let r : Running = after_events (opening_run s.nodes slots) gs in
-    let c : Whole = r.whole in
+    let c : ClusterState = r.whole in
     let keeps : RunKeeps s r = runs_keep s slots some slot apart gs right in
     let next : RunKeeps s (after_event r g) = next_keeps s slots some slot apart gs right g is in
     let k : IsTaken c g.event g.handed step = is_taken c g.event g.handed step taken in
     let x : IsWaitingHere (after_event r g).whole w a y = waits_for s (after_event r g) next.step w a y new.waits in
-    let job = from_mapped (λ (i : Given). i.worker) c.jobs new.job w (ap (λ ws. from_one ws new.job) (sym keeps.step.sound.between.knows.claims) ∙ new.own) in
+    let job = from_mapped (λ (i : JobRecord). i.worker) c.jobs new.job w (ap (λ ws. from_one ws new.job) (sym keeps.step.sound.between.knows.claims) ∙ new.own) in
     let whole : (after_event r g).whole ≡ (happens c (Commit new.job) g.handed).whole =
     last_whole r g step taken ∙ k.whole ∙ ap (λ e. (happens c e g.handed).whole) new.commit in
     let unrefused : refusal c (Commit new.job) g.handed ≡ None =
     ap (λ e. refusal c e g.handed) (sym new.commit) ∙ unrefused_so c g.event g.handed step (refusal c g.event g.handed) taken in
-    subst (λ ls. Sends ls (TheWorker w) (TheWorker y.owner) (Where y)) (ap (λ e. (happens c e g.handed).out.letters) (sym new.commit) ∙ sym k.letters)
+    subst (λ ls. Sends ls (TheWorker w) (TheWorker y.owner) (Where y)) (ap (λ e. (happens c e g.handed).out.envelopes) (sym new.commit) ∙ sym k.envelopes)
     (commit_of_job c new.job w g.handed job.0 job.1 (sym job.2) unrefused keeps.step.leases.homes y x.fetching x.worker x.run
     (ap (λ d. worker_at d w) (sym whole) ∙ x.there) x.at x.waits foreign)

@@ -9,7 +9,7 @@ use Rattle.event_log.specs.Rules.{Setting}
 use Rattle.protocol.specs.Nodes.{Node}
 use Rattle.protocol.specs.Sets.{has}
 use Rattle.protocol.specs.Tables.{Worker}
-use Rattle.protocol.specs.Whole.{Whole, node_at, worker_at}
+use Rattle.protocol.specs.Cluster.{ClusterState, node_at, worker_at}
 use Rattle.lease_discipline.specs.of_protocol_legal.Whole.{Between}
 use Rattle.protocol_owed.specs.Courses.{LivesOn, course}
 use Rattle.protocol_owed.specs.Runs.{Handing, Running, after_event, after_events, holders_in, opening_run, seen}
@@ -74,7 +74,7 @@ one_not true u e f = absurd (cc)
 one_not false u e f = twice_negated u (sym f)
 
 module _ (s : Setting) (r : Running) (keeps : RunKeeps s r) (uses : KeepsUses r.whole) where
-  abbrev c : Whole
+  abbrev c : ClusterState
   c = r.whole
 
   abbrev b : Between s r.log c

@@ -11,10 +11,10 @@ use Rattle.event_log.specs.Words.{same_attempt}
 use Rattle.event_log.specs.Breaks.{Among}
 use Rattle.protocol.specs.Numbered.{item_at}
 use Rattle.protocol.specs.Sets.{first_item, has, least, repeated, rest_of, without_number}
-use Rattle.protocol.specs.Messages.{Letter, letter, Message, Party, TheWorker, TheNode, Ask, Give, Elsewhere, Wait, Back, Push, Finished, FinishedAck, Failed}
+use Rattle.protocol.specs.Messages.{Envelope, envelope, Message, Endpoint, TheWorker, TheNode, Ask, Give, Elsewhere, Wait, Back, Push, Finished, FinishedAck, Failed}
 use Rattle.protocol.specs.Messages.{Where, At, Gone, Fetch, CopyOf, Missing, Hold, HoldAck, Unhold}
 use Rattle.protocol.specs.Stores.{copy_in}
-use Rattle.protocol.specs.Nodes.{AskKey, AskReply, Lease, Scheduler, SentOn, There, with_scheduler}
+use Rattle.protocol.specs.Nodes.{AskKey, AskReply, Lease, Scheduler, SentOn, NodeContext, with_scheduler}
 use Rattle.protocol.specs.Slots.{ask_key, asked_by, asks_slot, fetched, forgets, frees, gives_worker, grants, grants_next, grants_queued, has_free_slot}
 use Rattle.protocol.specs.Slots.{has_no_slot_for, is_back, is_latest_lease, leases_idle, leases_worker, may_be_idle, next_in_circle, next_worker}
 use Rattle.protocol.specs.Slots.{node_reached}
@@ -29,7 +29,7 @@ use Rattle.protocol_owed.specs.Told.{pace_by}
 use Rattle.protocol_owed.proofs.Sets.{has-left, has-push, has-rest, has-with, repeated_more, has-first, has-gone, least-in}
 use Rattle.lease_discipline.specs.Discipline.{Gave, Look}
 use Rattle.lease_discipline.proofs.Follows.{More, gave_more}
-use Rattle.lease_discipline.proofs.Theres.{letter_last, letter_more, with_letter}
+use Rattle.lease_discipline.proofs.Theres.{envelope_last, envelope_more, with_envelope}
 use Rattle.lease_discipline.proofs.Nodes.{lease_in}
 
 -- ---- sets of numbers
@@ -70,10 +70,10 @@ pub record IsHere (look : Look) (n w : ℕ) : Type 0 where
   pub lives : worker.is_live ≡ true
 
 -- it may go on, its job is out, or it was given for an attempt that it never began
-abbrev pub HasUse : List Letter → ℕ → ℕ → Worker → Type 0
+abbrev pub HasUse : List Envelope → ℕ → ℕ → Worker → Type 0
 HasUse sent n w x = (pace_by x.run ≡ GoesOn) ⊎ ((j : ℕ) × (pace_by x.run ≡ IsOut j)) ⊎ ((a : Attempt) × Gave sent n a w × (has_begun a x.began ≡ false))
 
-pub record IsUser (look : Look) (sent : List Letter) (n w : ℕ) : Type 0 where
+pub record IsUser (look : Look) (sent : List Envelope) (n w : ℕ) : Type 0 where
   pub here : IsHere look n w
   pub why : HasUse sent n w here.worker
 
@@ -82,7 +82,7 @@ pub record IsAnswered (look : Look) (n w : ℕ) : Type 0 where
   pub goes : pace_by here.worker.run ≡ GoesOn
 
 -- but for those of the first kind, who may keep a slot without use, and those of the second, of whom nothing is known
-pub record Used (but gone : ℕ → Type 0) (look : Look) (sent : List Letter) (n : ℕ) (s : Scheduler) : Type 0 where
+pub record Used (but gone : ℕ → Type 0) (look : Look) (sent : List Envelope) (n : ℕ) (s : Scheduler) : Type 0 where
   pub holders : (w : ℕ) → has s.holders w ≡ true → IsUser look sent n w ⊎ but w
   pub answered : (w : ℕ) → has s.answered w ≡ true → IsAnswered look n w ⊎ gone w
   pub idle : (w : ℕ) → has s.idle w ≡ true → IsHere look n w ⊎ gone w
@@ -104,7 +104,7 @@ IsFreshFor look s k = (w : ℕ) (x : Worker) → has s.idle w ≡ true → look 
 
 -- ---- more is sent, workers are opened, and what is said of workers of the node stays so
 
-use_more : (s t : List Letter) (n w : ℕ) (x : Worker) → More s t → HasUse s n w x → HasUse t n w x
+use_more : (s t : List Envelope) (n w : ℕ) (x : Worker) → More s t → HasUse s n w x → HasUse t n w x
 use_more s t n w x more (inl e) = inl e
 use_more s t n w x more (inr (inl e)) = inr (inl e)
 use_more s t n w x more (inr (inr e)) = inr (inr (e.0, gave_more s t n e.0 w more e.1, e.2))
@@ -113,7 +113,7 @@ abbrev pub here_kept : (look next : Look) (n w : ℕ) → ((v : ℕ) (x : Worker
     IsHere next n w
 here_kept look next n w forth h = record { worker = h.worker; there = forth w h.worker h.there h.home; home = h.home; lives = h.lives }
 
-pub used_more : (but gone : ℕ → Type 0) (look next : Look) (s t : List Letter) (n : ℕ) (sch : Scheduler) → More s t →
+pub used_more : (but gone : ℕ → Type 0) (look next : Look) (s t : List Envelope) (n : ℕ) (sch : Scheduler) → More s t →
     ((v : ℕ) (x : Worker) → look v ≡ Some x → x.node ≡ n → next v ≡ Some x) → Used but gone look s n sch → Used but gone next t n sch
 used_more but gone look next s t n sch more forth u = record {
   holders = λ w e. elim (u.holders w e) [
@@ -132,7 +132,7 @@ pub record IsLess (s t : Scheduler) : Type 0 where
   pub idle : (w : ℕ) → has t.idle w ≡ true → has s.idle w ≡ true
   pub leases : (w : ℕ) (a : Attempt) → is_latest_lease t w a ≡ true → is_latest_lease s w a ≡ true
 
-pub used_less : (but gone : ℕ → Type 0) (look : Look) (sent : List Letter) (n : ℕ) (s t : Scheduler) → IsLess s t → Used but gone look sent n s →
+pub used_less : (but gone : ℕ → Type 0) (look : Look) (sent : List Envelope) (n : ℕ) (s t : Scheduler) → IsLess s t → Used but gone look sent n s →
     Used but gone look sent n t
 used_less but gone look sent n s t less u = record {
   holders = λ w e. u.holders w (less.holders w e);
@@ -142,7 +142,7 @@ used_less but gone look sent n s t less u = record {
 }
 
 -- fewer are exempt
-pub used_so : (but gone more_but more_gone : ℕ → Type 0) (look : Look) (sent : List Letter) (n : ℕ) (s : Scheduler) → ((w : ℕ) → but w → more_but w) →
+pub used_so : (but gone more_but more_gone : ℕ → Type 0) (look : Look) (sent : List Envelope) (n : ℕ) (s : Scheduler) → ((w : ℕ) → but w → more_but w) →
     ((w : ℕ) → gone w → more_gone w) → Used but gone look sent n s → Used more_but more_gone look sent n s
 used_so but gone more_but more_gone look sent n s f g u = record {
   holders = λ w e. elim (u.holders w e) [ inl h ↦ inl h | inr h ↦ inr (f w h) ];
@@ -159,30 +159,30 @@ first_key (j ∷ queue) k e =
 
 -- ---- a node in an event, beside these workers
 
-module _ (ws : List Worker) (net : List Letter) (n : ℕ) (but gone : ℕ → Type 0) where
+module _ (ws : List Worker) (net : List Envelope) (n : ℕ) (but gone : ℕ → Type 0) where
   abbrev pub all_with : ℕ → List Worker
   all_with opened = ws ++ repeated opened (new_worker n)
 
-  abbrev pub look_in : There → Look
+  abbrev pub look_in : NodeContext → Look
   look_in t = λ w. item_at (all_with t.opened) w
 
-  abbrev pub sent_in : There → List Letter
-  sent_in t = net ++ t.out.letters
+  abbrev pub sent_in : NodeContext → List Envelope
+  sent_in t = net ++ t.out.envelopes
 
-  abbrev pub UsedThere : There → Type 0
+  abbrev pub UsedThere : NodeContext → Type 0
   UsedThere t = Used but gone (look_in t) (sent_in t) n t.node.scheduler
 
-  pub record Counts (t : There) : Type 0 where
+  pub record Counts (t : NodeContext) : Type 0 where
     pub number : t.number ≡ n
     pub counted : t.workers ≡ length ws
 
-  grown : (t : There) → all_with (t.opened + 1) ≡ all_with t.opened ++ new_worker n ∷ []
+  grown : (t : NodeContext) → all_with (t.opened + 1) ≡ all_with t.opened ++ new_worker n ∷ []
   grown t = ap (λ xs. ws ++ xs) (sym (repeated_more t.opened (new_worker n))) ∙ sym (append_assoc ws (repeated t.opened (new_worker n)) (new_worker n ∷ []))
 
-  opened_forth : (t : There) (w : ℕ) (x : Worker) → look_in t w ≡ Some x → look_in (opens_worker t) w ≡ Some x
+  opened_forth : (t : NodeContext) (w : ℕ) (x : Worker) → look_in t w ≡ Some x → look_in (opens_worker t) w ≡ Some x
   opened_forth t w x e = subst (λ xs. item_at xs w ≡ Some x) (sym (grown t)) (there_more (all_with t.opened) (new_worker n ∷ []) w x e)
 
-  newest : (t : There) → Counts t → look_in (opens_worker t) (next_worker t) ≡ Some (new_worker n)
+  newest : (t : NodeContext) → Counts t → look_in (opens_worker t) (next_worker t) ≡ Some (new_worker n)
   newest t c =
       let a = c.counted in
       let l = length-append ws (repeated t.opened (new_worker n)) in
@@ -193,18 +193,18 @@ module _ (ws : List Worker) (net : List Letter) (n : ℕ) (but gone : ℕ → Ty
       (slice_get-last (all_with t.opened) (new_worker n) (length (all_with t.opened)) refl)
 
   -- a live worker that never began the attempt takes a slot for it
-  leases_used : (t : There) (k : AskKey) (w : ℕ) → Counts t → (h : IsHere (look_in t) n w) → has_begun k.attempt h.worker.began ≡ false → UsedThere t →
+  leases_used : (t : NodeContext) (k : AskKey) (w : ℕ) → Counts t → (h : IsHere (look_in t) n w) → has_begun k.attempt h.worker.began ≡ false → UsedThere t →
       UsedThere (leases_worker t k w)
   leases_used t k w c h unbegun u =
-      let l : Letter = letter (TheNode t.number) (TheWorker k.attempt.object.owner) (Give k.attempt k.t w) in
-      let sent : List Letter = with_letter net t.out.letters l in
-      let more : More (sent_in t) sent = letter_more net t.out.letters l in
+      let l : Envelope = envelope (TheNode t.number) (TheWorker k.attempt.object.owner) (Give k.attempt k.t w) in
+      let sent : List Envelope = with_envelope net t.out.envelopes l in
+      let more : More (sent_in t) sent = envelope_more net t.out.envelopes l in
       let v : Used but gone (look_in t) sent n t.node.scheduler = used_more but gone (look_in t) (look_in t) (sent_in t) sent n t.node.scheduler more
       (λ i x e _. e) u in
       let gave : Gave sent n k.attempt w = (
         k.t,
-        subst (λ m. Among (letter (TheNode m) (TheWorker k.attempt.object.owner) (Give k.attempt k.t w)) sent) c.number
-            (letter_last net t.out.letters l),
+        subst (λ m. Among (envelope (TheNode m) (TheWorker k.attempt.object.owner) (Give k.attempt k.t w)) sent) c.number
+            (envelope_last net t.out.envelopes l),
       ) in
       record {
         holders = λ i e. elim (has-push t.node.scheduler.holders w i e) [
@@ -220,7 +220,7 @@ module _ (ws : List Worker) (net : List Letter) (n : ℕ) (but gone : ℕ → Ty
       }
 
   -- the scheduler is changed, or entries are logged
-  gives_used : (t : There) (k : AskKey) → Counts t → ((w : ℕ) → has t.node.scheduler.idle w ≡ true → gone w → ⊥) → IsFreshFor (look_in t) t.node.scheduler k →
+  gives_used : (t : NodeContext) (k : AskKey) → Counts t → ((w : ℕ) → has t.node.scheduler.idle w ≡ true → gone w → ⊥) → IsFreshFor (look_in t) t.node.scheduler k →
       UsedThere t → UsedThere (gives_worker t k)
   gives_used t k c present fresh u = by_idle (least t.node.scheduler.idle) refl
     where
@@ -237,17 +237,17 @@ module _ (ws : List Worker) (net : List Letter) (n : ℕ) (but gone : ℕ → Ty
             | inr f ↦ absurd (present w i f)
           ]
 
-  grants_queued_used : (t : There) (o : Option AskKey) → first_item t.node.scheduler.queue ≡ o → Counts t →
+  grants_queued_used : (t : NodeContext) (o : Option AskKey) → first_item t.node.scheduler.queue ≡ o → Counts t →
       ((w : ℕ) → has t.node.scheduler.idle w ≡ true → gone w → ⊥) → IsFresh (look_in t) t.node.scheduler → UsedThere t → UsedThere (grants_queued t o)
   grants_queued_used t None e c present fresh u = u
   grants_queued_used t (Some k) e c present fresh u =
-      let v : There = with_scheduler t (record t.node.scheduler { queue = rest_of t.node.scheduler.queue }) in
+      let v : NodeContext = with_scheduler t (record t.node.scheduler { queue = rest_of t.node.scheduler.queue }) in
       gives_used v k (record { number = c.number; counted = c.counted }) present
       (λ w x i there. fresh w x k i there (first_key t.node.scheduler.queue k e))
       (used_less but gone (look_in t) (sent_in t) n t.node.scheduler v.node.scheduler
       (record { holders = λ w i. i; answered = λ w i. i; idle = λ w i. i; leases = λ w a i. i }) u)
 
-  grants_next_used : (t : There) (o : Option ℕ) → first_item t.node.scheduler.answered ≡ o → Counts t →
+  grants_next_used : (t : NodeContext) (o : Option ℕ) → first_item t.node.scheduler.answered ≡ o → Counts t →
       ((w : ℕ) → has t.node.scheduler.idle w ≡ true → gone w → ⊥) → ((w : ℕ) → has t.node.scheduler.answered w ≡ true → gone w → ⊥) →
       IsFresh (look_in t) t.node.scheduler → UsedThere t → UsedThere (grants_next t o)
   grants_next_used t None e c present asking fresh u = grants_queued_used t (first_item t.node.scheduler.queue) refl c present fresh u
@@ -266,7 +266,7 @@ module _ (ws : List Worker) (net : List Letter) (n : ℕ) (but gone : ℕ → Ty
     leased = u.leased;
   }
 
-  pub grants_used : (t : There) → Counts t → ((w : ℕ) → has t.node.scheduler.idle w ≡ true → gone w → ⊥) →
+  pub grants_used : (t : NodeContext) → Counts t → ((w : ℕ) → has t.node.scheduler.idle w ≡ true → gone w → ⊥) →
       ((w : ℕ) → has t.node.scheduler.answered w ≡ true → gone w → ⊥) → IsFresh (look_in t) t.node.scheduler → UsedThere t → UsedThere (grants t)
   grants_used t c present asking fresh u =
       at_test (λ b. UsedThere (if b then grants_next t (first_item t.node.scheduler.answered) else t)) (has_free_slot t.node.scheduler)
@@ -274,12 +274,12 @@ module _ (ws : List Worker) (net : List Letter) (n : ℕ) (but gone : ℕ → Ty
 
 -- ---- slots are given back and asked for
 
-module _ (ws : List Worker) (net : List Letter) (n : ℕ) where
+module _ (ws : List Worker) (net : List Envelope) (n : ℕ) where
   none_gone : (xs : List ℕ) (w : ℕ) → has xs w ≡ true → Nobody w → ⊥
   none_gone xs w e f = f
 
   -- whoever gives its slot back may have had no use for it
-  pub frees_used : (t : There) (w : ℕ) → Counts ws net n (One w) Nobody t → IsFresh (look_in ws net n (One w) Nobody t) t.node.scheduler →
+  pub frees_used : (t : NodeContext) (w : ℕ) → Counts ws net n (One w) Nobody t → IsFresh (look_in ws net n (One w) Nobody t) t.node.scheduler →
       UsedThere ws net n (One w) Nobody t → UsedThere ws net n Nobody Nobody (frees t w)
   frees_used t w c fresh u =
       at_test (λ b. has t.node.scheduler.holders w ≡ b → UsedThere ws net n Nobody Nobody (if b then grants (with_scheduler t s) else t))
@@ -309,7 +309,7 @@ module _ (ws : List Worker) (net : List Letter) (n : ℕ) where
       s = without_slot t.node.scheduler w
 
   -- a worker whose attempt may go on asks for a slot
-  pub slot_used : (but : ℕ → Type 0) (t : There) (w : ℕ) → Counts ws net n but Nobody t → IsFresh (look_in ws net n but Nobody t) t.node.scheduler →
+  pub slot_used : (but : ℕ → Type 0) (t : NodeContext) (w : ℕ) → Counts ws net n but Nobody t → IsFresh (look_in ws net n but Nobody t) t.node.scheduler →
       IsAnswered (look_in ws net n but Nobody t) n w → UsedThere ws net n but Nobody t → UsedThere ws net n but Nobody (asks_slot t w)
   slot_used but t w c fresh asks u =
       at_test (λ b. UsedThere ws net n but Nobody (if b then t else grants (with_scheduler t s)))
@@ -332,7 +332,7 @@ module _ (ws : List Worker) (net : List Letter) (n : ℕ) where
       s = with_answered t.node.scheduler w
 
   -- a worker that is dead is known no more
-  pub forgets_used : (t : There) (w : ℕ) → Counts ws net n (One w) (One w) t → IsFresh (look_in ws net n (One w) (One w) t) t.node.scheduler →
+  pub forgets_used : (t : NodeContext) (w : ℕ) → Counts ws net n (One w) (One w) t → IsFresh (look_in ws net n (One w) (One w) t) t.node.scheduler →
       UsedThere ws net n (One w) (One w) t → UsedThere ws net n Nobody Nobody (forgets t w)
   forgets_used t w c fresh u =
       frees_used (with_scheduler t s) w (record { number = c.number; counted = c.counted })
@@ -361,22 +361,22 @@ module _ (ws : List Worker) (net : List Letter) (n : ℕ) where
 
   -- ---- what reaches the node
 
-  abbrev T : There → Type 0
+  abbrev T : NodeContext → Type 0
   T t = UsedThere ws net n Nobody Nobody t
 
-  -- a letter is sent, and the scheduler has no more
-  said_used : (t : There) (s : Scheduler) (l : Letter) → IsLess t.node.scheduler s → T t →
-      Used Nobody Nobody (look_in ws net n Nobody Nobody t) (with_letter net t.out.letters l) n s
+  -- a envelope is sent, and the scheduler has no more
+  said_used : (t : NodeContext) (s : Scheduler) (l : Envelope) → IsLess t.node.scheduler s → T t →
+      Used Nobody Nobody (look_in ws net n Nobody Nobody t) (with_envelope net t.out.envelopes l) n s
   said_used t s l less u =
-      used_less Nobody Nobody (look_in ws net n Nobody Nobody t) (with_letter net t.out.letters l) n t.node.scheduler s less
-      (used_more Nobody Nobody (look_in ws net n Nobody Nobody t) (look_in ws net n Nobody Nobody t) (net ++ t.out.letters)
-      (with_letter net t.out.letters l) n
-      t.node.scheduler (letter_more net t.out.letters l) (λ i x e _. e) u)
+      used_less Nobody Nobody (look_in ws net n Nobody Nobody t) (with_envelope net t.out.envelopes l) n t.node.scheduler s less
+      (used_more Nobody Nobody (look_in ws net n Nobody Nobody t) (look_in ws net n Nobody Nobody t) (net ++ t.out.envelopes)
+      (with_envelope net t.out.envelopes l) n
+      t.node.scheduler (envelope_more net t.out.envelopes l) (λ i x e _. e) u)
 
   same_less : (s : Scheduler) → IsLess s s
   same_less s = record { holders = λ w i. i; answered = λ w i. i; idle = λ w i. i; leases = λ w a i. i }
 
-  pub asked_used : (t : There) (k : AskKey) → Counts ws net n Nobody Nobody t →
+  pub asked_used : (t : NodeContext) (k : AskKey) → Counts ws net n Nobody Nobody t →
       (reply_to t.node.scheduler k ≡ None → IsFreshFor (look_in ws net n Nobody Nobody t) t.node.scheduler k) → T t →
       T (asked_by t k (reply_to t.node.scheduler k))
   asked_used t k c fresh u = by_reply (reply_to t.node.scheduler k) refl
@@ -389,7 +389,7 @@ module _ (ws : List Worker) (net : List Letter) (n : ℕ) where
           (λ _. said_used t _ _ (record { holders = λ w i. i; answered = λ w i. i; idle = λ w i. i; leases = λ w a i. i }) u))
       by_reply (Some x) e = said_used t t.node.scheduler _ (same_less t.node.scheduler) u
 
-  back_used : (t : There) (w : ℕ) (a : Attempt) → T t → T (is_back t w a)
+  back_used : (t : NodeContext) (w : ℕ) (a : Attempt) → T t → T (is_back t w a)
   back_used t w a u =
       at_test (λ b. may_be_idle t.node.scheduler w a ≡ b →
       T (if b then with_scheduler t (with_idle t.node.scheduler w) else t)) (may_be_idle t.node.scheduler w a)
@@ -407,11 +407,11 @@ module _ (ws : List Worker) (net : List Letter) (n : ℕ) where
       latest e = and_left (is_latest_lease t.node.scheduler w a) (not (has t.node.scheduler.holders w))
           (and_left (is_latest_lease t.node.scheduler w a && not (has t.node.scheduler.holders w)) (not (has t.node.scheduler.answered w)) e)
 
-  fetched_used : (t : There) (o : Id) (number w : ℕ) (c : Option Outcome) → T t → T (fetched t o number w c)
+  fetched_used : (t : NodeContext) (o : Id) (number w : ℕ) (c : Option Outcome) → T t → T (fetched t o number w c)
   fetched_used t o number w None u = said_used t t.node.scheduler _ (same_less t.node.scheduler) u
   fetched_used t o number w (Some c) u = said_used t t.node.scheduler _ (same_less t.node.scheduler) u
 
-  reached_from_used : (t : There) (w : ℕ) (m : Message) → Counts ws net n Nobody Nobody t →
+  reached_from_used : (t : NodeContext) (w : ℕ) (m : Message) → Counts ws net n Nobody Nobody t →
       ((a : Attempt) (i : ℕ) → m ≡ Ask a i → reply_to t.node.scheduler (ask_key a i) ≡ None →
       IsFreshFor (look_in ws net n Nobody Nobody t) t.node.scheduler (ask_key a i)) →
       T t → T (node_reached_from t w m)
@@ -434,7 +434,7 @@ module _ (ws : List Worker) (net : List Letter) (n : ℕ) where
   reached_from_used t w (Hold e o) c fresh u = u
   reached_from_used t w (HoldAck e o) c fresh u = u
 
-  pub reached_used : (t : There) (from : Party) (m : Message) → Counts ws net n Nobody Nobody t →
+  pub reached_used : (t : NodeContext) (from : Endpoint) (m : Message) → Counts ws net n Nobody Nobody t →
       ((a : Attempt) (i w : ℕ) → from ≡ TheWorker w → m ≡ Ask a i → reply_to t.node.scheduler (ask_key a i) ≡ None →
       IsFreshFor (look_in ws net n Nobody Nobody t) t.node.scheduler (ask_key a i)) → T t → T (node_reached t from m)
   reached_used t (TheWorker w) m c fresh u = reached_from_used t w m c (λ a i e none. fresh a i w refl e none) u

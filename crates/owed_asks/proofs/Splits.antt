@@ -29,7 +29,7 @@ use Rattle.holding.specs.Past.{Fact, Has}
 use Rattle.holding.specs.Tells.{IsFactOf, Stands, Tells, facts_in}
 use Rattle.lease_discipline.proofs.of_protocol_legal.Calm.{any_weaker}
 use Rattle.protocol_owed.specs.Seen.{IsCalm, is_failure}
-use Rattle.protocol_owed.proofs.Letters.{among-push_cases}
+use Rattle.protocol_owed.proofs.Envelopes.{among-push_cases}
 
 -- ---- lists
 

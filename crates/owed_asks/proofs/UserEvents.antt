@@ -12,21 +12,21 @@ use Rattle.event_log.specs.Entries.{Refusal, NoWorker, NotReady, NoJob, Stale, N
 use Rattle.event_log.specs.Breaks.{Among}
 use Rattle.protocol.specs.Numbered.{item_at, changed_at}
 use Rattle.protocol.specs.Sets.{has, repeated}
-use Rattle.protocol.specs.Messages.{Letter, letter, Message, Party, TheWorker, TheNode, Ask, Give, Elsewhere, Wait, Back, Push, Finished, FinishedAck, Failed}
+use Rattle.protocol.specs.Messages.{Envelope, envelope, Message, Endpoint, TheWorker, TheNode, Ask, Give, Elsewhere, Wait, Back, Push, Finished, FinishedAck, Failed}
 use Rattle.protocol.specs.Messages.{Where, At, Gone, Fetch, CopyOf, Missing, Hold, HoldAck, Unhold}
-use Rattle.protocol.specs.Jobs.{AtEnd, AtGet, Given, Handed, Job, Nothing, OfAnother, OfJob, Outcomes, Stopped, stop_of}
-use Rattle.protocol.specs.Nodes.{AskReply, Leased, Node, Queued, SentOn, There, new_node}
+use Rattle.protocol.specs.Jobs.{AtEnd, AtGet, JobRecord, CommitInput, Job, Nothing, OfAnother, OfJob, Outcomes, Stopped, stop_of}
+use Rattle.protocol.specs.Nodes.{AskReply, Leased, Node, Queued, SentOn, NodeContext, new_node}
 use Rattle.protocol.specs.Slots.{ask_key, forgets, node_reached, reply_to}
-use Rattle.protocol.specs.Tables.{Fetching, HasEnded, Out, Run, has_stopped, Waits, Worker, is_waiting_for, new_worker}
-use Rattle.protocol.specs.Steps.{Here, logs_all, with_phase, with_run}
+use Rattle.protocol.specs.Tables.{Fetching, HasEnded, Out, Execution, has_stopped, Waits, Worker, is_waiting_for, new_worker}
+use Rattle.protocol.specs.Steps.{WorkerContext, logs_all, with_phase, with_run}
 use Rattle.protocol.specs.Runs.{begins_run, gives_slot_back, is_free, leaves_if_free, push_reached}
 use Rattle.protocol.specs.Commits.{keeps_contents, asks_where, bears_all, claim_by, claim_step, commit_by, commit_step, ends, needs, next_id_here, stops_by, with_outcomes}
 use Rattle.protocol.specs.Notices.{notice_step, notice_node_step}
 use Rattle.protocol.specs.Ticks.{tick_step}
 use Rattle.protocol.specs.Releases.{release_step}
 use Rattle.protocol.specs.Deliveries.{reached}
-use Rattle.protocol.specs.Whole.{Whole, Moved, driver, first_whole, here, moved, node_at, node_does, node_does_by, there, worker_at, worker_does, after_node}
-use Rattle.protocol.specs.Whole.{worker_does_at, worker_does_by}
+use Rattle.protocol.specs.Cluster.{ClusterState, Transition, driver, first_whole, here, moved, node_at, node_does, node_does_by, there, worker_at, worker_does, after_node}
+use Rattle.protocol.specs.Cluster.{worker_does_at, worker_does_by}
 use Rattle.protocol.specs.Events.{committed_by, dead, dead_node, delivered_by, delivered_to, dies_with, happens, is_live_node, is_live_worker, killed_by, objects_made}
 use Rattle.protocol.specs.Events.{with_committed, with_delivered}
 use Rattle.protocol.specs.Answers.{Refuses, answer, decided, given_out, takes, whole_after}
@@ -38,7 +38,7 @@ use Rattle.protocol_owed.proofs.Asks.{Stands, reply_in}
 use Rattle.protocol_owed.proofs.CourseAll.{both_passed, passed}
 use Rattle.protocol_owed.proofs.CourseEvents.{one_of}
 use Rattle.protocol_owed.proofs.FullNodes.{NodesAreFull}
-use Rattle.protocol_owed.proofs.Letters.{among-more}
+use Rattle.protocol_owed.proofs.Envelopes.{among-more}
 use Rattle.protocol_owed.proofs.Nodes.{NodesAreRight, changed_cases, push_cases, there_more}
 use Rattle.protocol_owed.specs.Told.{pace_by, pace_in}
 use Rattle.protocol_owed.proofs.TellingMore.{stopped_pace}
@@ -59,7 +59,7 @@ use Rattle.owed_asks.proofs.Users.{Uses, frees_uses, look, my_answer, uses_kept,
 use Rattle.owed_asks.proofs.Waiting.{WaitsOnly, asks_where-waits, rests_waits}
 
 -- on every live node
-abbrev pub KeepsUses : Whole → Type 0
+abbrev pub KeepsUses : ClusterState → Type 0
 KeepsUses c = (n : ℕ) (node : Node) → node_at c n ≡ Some node → node.is_live ≡ true → Used Nobody Nobody (worker_at c) c.network n node.scheduler
 
 -- ---- an idle worker never began what is asked for
@@ -85,14 +85,14 @@ not_sent_on (Some Queued) a t m e (inl p) = absurd (cc)
 not_sent_on (Some Queued) a t m e (inr (u, p, q)) = absurd (cc)
 
 -- what is known between two events
-pub record Knowing (c : Whole) : Type 0 where
+pub record Knowing (c : ClusterState) : Type 0 where
   pub leases : KeepsLeases c
   pub asks : KeepsAsks c
   pub right : NodesAreRight c
   pub full : NodesAreFull c
   pub housed : (w : ℕ) (x : Worker) → worker_at c w ≡ Some x → x.is_live ≡ true → (node : Node) × (node_at c x.node ≡ Some node) × (node.is_live ≡ true)
 
-module _ (c : Whole) (k : Knowing c) (n : ℕ) (node : Node) (at : node_at c n ≡ Some node) (live : node.is_live ≡ true) where
+module _ (c : ClusterState) (k : Knowing c) (n : ℕ) (node : Node) (at : node_at c n ≡ Some node) (live : node.is_live ≡ true) where
   alive : IsDeadNode c n → ⊥
   alive (other, there, off) =
       let f : ◌≡◌ {A = Option Node} (Some node) (Some other) = sym at ∙ there in
@@ -110,13 +110,13 @@ module _ (c : Whole) (k : Knowing c) (n : ℕ) (node : Node) (at : node_at c n �
     | inr pushed ↦
         let closed = k.asks.closed a w pushed in
         let i = (k.leases.nodes n node at).idle w idle in
-        let given : IsOfNode (worker_at c) closed.node w = k.leases.workers.letters _ closed.given in
+        let given : IsOfNode (worker_at c) closed.node w = k.leases.workers.envelopes _ closed.given in
         let home : closed.node ≡ n = same_home i.worker given.worker (sym i.there ∙ given.there) i.home given.home in
         let told = (k.right.each n node at).replies.told in
         elim (closed.last t n asked) [
           | inl (same, _) ↦
-              let sent = subst (λ j. Among (letter (TheNode n) (TheWorker a.object.owner) (Give a j w)) c.network) (sym same)
-              (subst (λ j. Among (letter (TheNode j) (TheWorker a.object.owner) (Give a closed.t w)) c.network) home closed.given) in
+              let sent = subst (λ j. Among (envelope (TheNode n) (TheWorker a.object.owner) (Give a j w)) c.network) (sym same)
+              (subst (λ j. Among (envelope (TheNode j) (TheWorker a.object.owner) (Give a closed.t w)) c.network) home closed.given) in
               unanswered (reply_in node.scheduler.asks (ask_key a t)) a t w reply (told a t (Give a t w) (inl (w, refl)) sent)
           | inr (_, passed) ↦ unpassed passed reply
         ]
@@ -139,15 +139,15 @@ module _ (c : Whole) (k : Knowing c) (n : ℕ) (node : Node) (at : node_at c n �
 
 -- ---- the worker's own steps
 
-module _ (c : Whole) (me n : ℕ) (old : Worker) (at : item_at c.workers me ≡ Some old) where
-  abbrev U : Option Pace → Here → Type 0
+module _ (c : ClusterState) (me n : ℕ) (old : Worker) (at : item_at c.workers me ≡ Some old) where
+  abbrev U : Option Pace → WorkerContext → Type 0
   U p = Uses c me n old at p
 
   abbrev kept : (p : Option Pace) → IsKept AnyTold AnyOver GivenBy AnyPassed (U p)
   kept p = uses_kept c me n old at AnyTold AnyOver GivenBy p
 
   -- an attempt that goes on doesn't ask for a slot
-  abbrev Unasking : Here → Type 0
+  abbrev Unasking : WorkerContext → Type 0
   Unasking h = (pace_by h.worker.run ≡ GoesOn) × (has h.there.node.scheduler.answered me ≡ false)
 
   goes_rests : GoesOn ≡ Rests → ⊥
@@ -156,10 +156,10 @@ module _ (c : Whole) (me n : ℕ) (old : Worker) (at : item_at c.workers me ≡ 
   goes_stopped : GoesOn ≡ HasStopped → ⊥
   goes_stopped e = absurd (cc)
 
-  waits_no : (h : Here) (run : Run) (y : Id) (f : Option Fetching) → h.worker.run ≡ Some run → run.phase ≡ Waits y f → Unasking h → ⊥
+  waits_no : (h : WorkerContext) (run : Execution) (y : Id) (f : Option Fetching) → h.worker.run ≡ Some run → run.phase ≡ Waits y f → Unasking h → ⊥
   waits_no h run y f e q u = goes_rests (sym u.0 ∙ ap pace_by e ∙ ap pace_in q)
 
-  stopped_no : (h : Here) (run : Run) → h.worker.run ≡ Some run → has_stopped run.phase ≡ true → Unasking h → ⊥
+  stopped_no : (h : WorkerContext) (run : Execution) → h.worker.run ≡ Some run → has_stopped run.phase ≡ true → Unasking h → ⊥
   stopped_no h run e s u =
       goes_stopped (sym u.0 ∙ ap pace_by e ∙ stopped_pace run.phase s)
 
@@ -191,14 +191,14 @@ module _ (c : Whole) (me n : ℕ) (old : Worker) (at : item_at c.workers me ≡ 
   }
 
   -- a worker that isn't exempt
-  tight : (p : Pace) (h : Here) → (pace_by h.worker.run ≡ p → ⊥) → U (Some p) h → U None h
+  tight : (p : Pace) (h : WorkerContext) → (pace_by h.worker.run ≡ p → ⊥) → U (Some p) h → U None h
   tight p h other u = record {
     who = u.who;
     home = u.home;
     lives = u.lives;
     number = u.number;
     counted = u.counted;
-    used = used_so _ Nobody _ Nobody (look c me n old at h.worker h.there.opened) (c.network ++ h.there.out.letters) n h.there.node.scheduler
+    used = used_so _ Nobody _ Nobody (look c me n old at h.worker h.there.opened) (c.network ++ h.there.out.envelopes) n h.there.node.scheduler
         (λ w f. absurd (other (same_pace p (pace_by h.worker.run) f.1))) (λ w f. f) u.used;
     fresh = u.fresh;
   }
@@ -207,15 +207,15 @@ module _ (c : Whole) (me n : ℕ) (old : Worker) (at : item_at c.workers me ≡ 
       same_pace i j e = cc
 
   -- the attempt stops: it may keep its slot until the end of the step
-  stops_slot : (p : Pace) (h : Here) (run : Run) → pace_in run.phase ≡ p → Unasking h → U None h → U (Some p) (with_run h run)
+  stops_slot : (p : Pace) (h : WorkerContext) (run : Execution) → pace_in run.phase ≡ p → Unasking h → U None h → U (Some p) (with_run h run)
   stops_slot p h run e unasking u =
       worker_uses c me n old at None (Some p) h (record h.worker { run = Some run }) refl refl refl (λ _. inr (ap (λ i. Some i) (sym e)))
       (λ asks. absurd (both_ways (has h.there.node.scheduler.answered me) unasking.1 asks)) u
 
-  needs_uses : (h : Here) (run : Run) (y : Id) → Unasking h → U None h → U None (needs h run y)
+  needs_uses : (h : WorkerContext) (run : Execution) (y : Id) → Unasking h → U None h → U None (needs h run y)
   needs_uses h run y unasking u =
-      let waits : Run = record run { phase = Waits y None } in
-      let g : Here = asks_where (with_phase h run (Waits y None)) y in
+      let waits : Execution = record run { phase = Waits y None } in
+      let g : WorkerContext = asks_where (with_phase h run (Waits y None)) y in
       let asked : U (Some Rests) g = asks_where-kept AnyTold AnyOver GivenBy AnyPassed (U (Some Rests)) (kept (Some Rests)) (with_phase h run (Waits y None)) y
       (stops_slot Rests h waits refl unasking u) in
       let only : WaitsOnly y g = asks_where-waits y (with_phase h run (Waits y None)) (λ z e. same_id_of y z e) in
@@ -226,23 +226,23 @@ module _ (c : Whole) (me n : ℕ) (old : Worker) (at : item_at c.workers me ≡ 
       same_id_of : (y z : Id) → ◌≡◌ {A = Option Id} (Some y) (Some z) → z ≡ y
       same_id_of y z e = cc
 
-  ends_uses : (h : Here) (run : Run) (cs : List Outcome) → Unasking h → U None h → U None (ends h run cs)
+  ends_uses : (h : WorkerContext) (run : Execution) (cs : List Outcome) → Unasking h → U None h → U None (ends h run cs)
   ends_uses h run cs unasking u =
-      let ended : Run = record run { phase = HasEnded cs } in
-      let g : Here = with_phase h run (HasEnded cs) in
-      let held : Here = keeps_contents g run.attempt.object run.attempt.number cs in
+      let ended : Execution = record run { phase = HasEnded cs } in
+      let g : WorkerContext = with_phase h run (HasEnded cs) in
+      let held : WorkerContext = keeps_contents g run.attempt.object run.attempt.number cs in
       let v : U (Some HasStopped) g = stops_slot HasStopped h ended refl unasking u in
       let w : U (Some HasStopped) held = keeps_contents-kept AnyTold AnyOver GivenBy AnyPassed (U (Some HasStopped)) (kept (Some HasStopped)) g
       run.attempt.object run.attempt.number cs v in
       frees_uses c me n old at (Some HasStopped) None (leaves_if_free held)
       (leaves_if_free-kept AnyTold AnyOver GivenBy AnyPassed (U (Some HasStopped)) (kept (Some HasStopped)) held w)
 
-  stops_uses : (h : Here) (stop : Stopped) (r : Option Run) → Unasking h → U None h → U None (stops_by h stop r)
+  stops_uses : (h : WorkerContext) (stop : Stopped) (r : Option Execution) → Unasking h → U None h → U None (stops_by h stop r)
   stops_uses h stop None unasking u = u
   stops_uses h (AtGet y) (Some run) unasking u = needs_uses h run y unasking u
   stops_uses h (AtEnd cs) (Some run) unasking u = ends_uses h run cs unasking u
 
-  pub commit_uses : (h : Here) (o : Outcomes) (run : Run) (j : ℕ) → h.worker.run ≡ Some run → run.phase ≡ Out j → U None h → U None (commit_step h o)
+  pub commit_uses : (h : WorkerContext) (o : Outcomes) (run : Execution) (j : ℕ) → h.worker.run ≡ Some run → run.phase ≡ Out j → U None h → U None (commit_step h o)
   commit_uses h o run j e out u = subst (λ r. U None (commit_by h o r)) (sym e) by_run
     where
       silent : has h.there.node.scheduler.answered me ≡ false
@@ -255,69 +255,69 @@ module _ (c : Whole) (me n : ℕ) (old : Worker) (at : item_at c.workers me ≡ 
       by_run : U None (commit_by h o (Some run))
       by_run =
           let es : List Entry = commit_entries run.attempt (next_id_here h) o.births o.prints (stop_of o.stop) in
-          let next : Run = with_outcomes run o in
-          let g : Here = logs_all (with_run h next) es in
+          let next : Execution = with_outcomes run o in
+          let g : WorkerContext = logs_all (with_run h next) es in
           let v : U None (with_run h next) = worker_uses c me n old at None None h (record h.worker { run = Some next }) refl refl refl (λ _. inl
           (inl refl)) (λ _. refl) u in
-          let borne : Here = bears_all g run.attempt o.births in
+          let borne : WorkerContext = bears_all g run.attempt o.births in
           let b : U None borne = bears_all-kept AnyTold AnyOver GivenBy AnyPassed (U None) (kept None) g run.attempt o.births
           (record { who = v.who; home = v.home; lives = v.lives; number = v.number; counted = v.counted; used = v.used; fresh = v.fresh }) in
           let q : Unasking borne = bears_all-kept AnyTold AnyOver GivenBy AnyPassed Unasking unasking_kept g run.attempt o.births (refl, silent) in
           stops_uses borne o.stop borne.worker.run q b
 
   -- an attempt is given out, or begins: it has a slot, and asks for none
-  pub claim_uses : (h : Here) (j : ℕ) → has h.there.node.scheduler.answered me ≡ false → U None h → U None (claim_step h j)
+  pub claim_uses : (h : WorkerContext) (j : ℕ) → has h.there.node.scheduler.answered me ≡ false → U None h → U None (claim_step h j)
   claim_uses h j silent u = by_run h.worker.run
     where
-      by_run : (r : Option Run) → U None (claim_by h j r)
+      by_run : (r : Option Execution) → U None (claim_by h j r)
       by_run None = u
       by_run (Some run) = worker_uses c me n old at None None h (record h.worker { run = Some (record run { phase = Out j }) }) refl refl refl
           (λ _. inl (inr (inl (j, refl)))) (λ asks. absurd (both_ways (has h.there.node.scheduler.answered me) silent asks)) u
 
-  pub push_uses : (h : Here) (a : Attempt) (spec : Birth) → has h.there.node.scheduler.idle me ≡ false → U None h → U None (begins_run h a spec)
+  pub push_uses : (h : WorkerContext) (a : Attempt) (spec : Birth) → has h.there.node.scheduler.idle me ≡ false → U None h → U None (begins_run h a spec)
   push_uses h a spec busy u = worker_uses_by c me n old at None None h (begins_run h a spec).worker refl refl
       (λ k idle. absurd (both_ways (has h.there.node.scheduler.idle me) busy idle)) (λ _. inl (inl refl)) (λ _. refl) u
 
 -- ---- the end of an event of a node
 
 -- workers of other nodes are the same
-module _ (c d : Whole) (n : ℕ) (t : There) (same_nodes : d.nodes ≡ c.nodes) (same_network : d.network ≡ c.network)
+module _ (c d : ClusterState) (n : ℕ) (t : NodeContext) (same_nodes : d.nodes ≡ c.nodes) (same_network : d.network ≡ c.network)
     (others : (m : ℕ) (w : ℕ) (x : Worker) → m ≢ n → worker_at c w ≡ Some x → x.node ≡ m → worker_at d w ≡ Some x) (k : KeepsUses c)
     (now : t.node.is_live ≡ true → Used Nobody Nobody (λ w. item_at (d.workers ++ repeated t.opened (new_worker n)) w)
-    (d.network ++ t.out.letters) n t.node.scheduler) where
+    (d.network ++ t.out.envelopes) n t.node.scheduler) where
   uses_end : KeepsUses (after_node d n t).whole
   uses_end m node e live = elim (changed_cases d.nodes n m (λ _. t.node) node e) [
     | inl (same, _, _, is) ↦
-        subst (λ i. Used Nobody Nobody (worker_at (after_node d n t).whole) (d.network ++ t.out.letters) i node.scheduler) (sym same)
-        (subst (λ (x : Node). Used Nobody Nobody (worker_at (after_node d n t).whole) (d.network ++ t.out.letters) n x.scheduler) (sym is)
+        subst (λ i. Used Nobody Nobody (worker_at (after_node d n t).whole) (d.network ++ t.out.envelopes) i node.scheduler) (sym same)
+        (subst (λ (x : Node). Used Nobody Nobody (worker_at (after_node d n t).whole) (d.network ++ t.out.envelopes) n x.scheduler) (sym is)
         (now (ap (λ (x : Node). x.is_live) (sym is) ∙ live)))
     | inr (apart, before) ↦
-        used_more Nobody Nobody (worker_at c) (worker_at (after_node d n t).whole) c.network (d.network ++ t.out.letters) m node.scheduler
-        (λ l i. among-more d.network t.out.letters l (subst (λ ls. Among l ls) (sym same_network) i))
+        used_more Nobody Nobody (worker_at c) (worker_at (after_node d n t).whole) c.network (d.network ++ t.out.envelopes) m node.scheduler
+        (λ l i. among-more d.network t.out.envelopes l (subst (λ ls. Among l ls) (sym same_network) i))
         (λ w x there home. there_more d.workers (repeated t.opened (new_worker n)) w x (others m w x apart there home))
         (k m node (subst (λ ns. item_at ns m ≡ Some node) same_nodes before) live)
   ]
 
 -- ---- an event of a worker
 
-abbrev Steps : Whole → ℕ → (Here → Here) → Type 0
+abbrev Steps : ClusterState → ℕ → (WorkerContext → WorkerContext) → Type 0
 Steps c w f = (x : Worker) (at : worker_at c w ≡ Some x) (node : Node) → node_at c x.node ≡ Some node → x.is_live ≡ true → node.is_live ≡ true →
     Uses c w x.node x at None (here c w x node) → Uses c w x.node x at None (f (here c w x node))
 
 -- whatever jobs were given and messages delivered
-worker_uses_event : (c : Whole) (jobs : List Given) (made : ℕ) (delivered : List Bool) (w : ℕ) (f : Here → Here) →
+worker_uses_event : (c : ClusterState) (jobs : List JobRecord) (made : ℕ) (delivered : List Bool) (w : ℕ) (f : WorkerContext → WorkerContext) →
     is_live_worker (worker_at c w) ≡ true → Knowing c →
     Steps (record c { jobs = jobs; made = made; delivered = delivered }) w f → KeepsUses c →
     KeepsUses (worker_does (record c { jobs = jobs; made = made; delivered = delivered }) w f).whole
 worker_uses_event c jobs made delivered w f live knowing steps k = by_worker (worker_at c w) refl live
   where
-    d : Whole
+    d : ClusterState
     d = record c { jobs = jobs; made = made; delivered = delivered }
 
     with_node : (x : Worker) (at : worker_at c w ≡ Some x) (node : Node) → node_at c x.node ≡ Some node → x.is_live ≡ true → node.is_live ≡ true →
         KeepsUses (worker_does_at d w x f (Some node)).whole
     with_node x at node home lives node_lives =
-        let start : Here = here d w x node in
+        let start : WorkerContext = here d w x node in
         let all : changed_at c.workers w (λ _. x) ++ [] ≡ c.workers = append-nil (changed_at c.workers w (λ _. x)) ∙ changed_same c.workers w x at in
         let first : Used Nobody Nobody (worker_at c) c.network x.node node.scheduler = k x.node node home node_lives in
         let begins : Uses d w x.node x at None start = record {
@@ -331,13 +331,13 @@ worker_uses_event c jobs made delivered w f live knowing steps k = by_worker (wo
               (subst (λ ls. Used Nobody Nobody (worker_at c) ls x.node node.scheduler) (sym (append-nil c.network)) first));
           fresh = subst (λ xs. IsFresh (λ v. item_at xs v) node.scheduler) (sym all) (fresh_node c knowing x.node node home node_lives);
         } in
-        let h : Here = release_step (f start) in
+        let h : WorkerContext = release_step (f start) in
         let u : Uses d w x.node x at None h =
         release_step-kept AnyTold AnyOver GivenBy AnyPassed (Uses d w x.node x at None) (uses_kept d w x.node x at AnyTold AnyOver GivenBy None) (f start)
         (steps x at node home lives node_lives begins) in
         uses_end c (record d { workers = changed_at c.workers w (λ _. h.worker) }) x.node h.there refl refl
         (λ m v y apart there of_m. changed_elsewhere c.workers w v (λ _. h.worker) y (λ same. apart (sym of_m ∙ same_node v y same there at)) there) k
-        (λ _. used_so _ Nobody Nobody Nobody (look d w x.node x at h.worker h.there.opened) (c.network ++ h.there.out.letters) x.node h.there.node.scheduler
+        (λ _. used_so _ Nobody Nobody Nobody (look d w x.node x at h.worker h.there.opened) (c.network ++ h.there.out.envelopes) x.node h.there.node.scheduler
         (λ v i. no_pace h.worker i.1) (λ v i. i) u.used)
       where
         no_pace : (y : Worker) → ◌≡◌ {A = Option Pace} None (Some (pace_by y.run)) → ⊥
@@ -356,10 +356,10 @@ worker_uses_event c jobs made delivered w f live knowing steps k = by_worker (wo
 
 -- ---- claims and commits
 
-claim_event : (c : Whole) (w : ℕ) → refusal c (Claim w) Nothing ≡ None → Knowing c → KeepsUses c → KeepsUses (happens c (Claim w) Nothing).whole
+claim_event : (c : ClusterState) (w : ℕ) → refusal c (Claim w) Nothing ≡ None → Knowing c → KeepsUses c → KeepsUses (happens c (Claim w) Nothing).whole
 claim_event c w e knowing k =
-    let jobs : List Given = c.jobs ++ record { worker = w; is_committed = false } ∷ [] in
-    let d : Whole = record c { jobs = jobs } in
+    let jobs : List JobRecord = c.jobs ++ record { worker = w; is_committed = false } ∷ [] in
+    let d : ClusterState = record c { jobs = jobs } in
     let two = both_passed (no_worker c w) (unless (is_ready c w) NotReady) e in
     let ready : is_ready c w ≡ true = passed (is_ready c w) NotReady two.1 in
     worker_uses_event c jobs c.made c.delivered w (λ h. claim_step h (length c.jobs + 1)) (passed (is_live_worker (worker_at c w)) NoWorker two.0) knowing
@@ -369,7 +369,7 @@ claim_event c w e knowing k =
     claim_uses d w x.node x at (here d w x node) (length c.jobs + 1)
     (false_from_ne_true (has node.scheduler.answered w) (λ asks. both_ways (has node.scheduler.holders w) ((knowing.full.each x.node node home).parts.apart w asks) slot)) u) k
 
-commit_event : (c : Whole) (j : ℕ) (handed : Handed) (g : Option Given) → commit_refusal c j handed g ≡ None → Knowing c → KeepsUses c →
+commit_event : (c : ClusterState) (j : ℕ) (handed : CommitInput) (g : Option JobRecord) → commit_refusal c j handed g ≡ None → Knowing c → KeepsUses c →
     KeepsUses (committed_by c j handed g).whole
 commit_event c j Nothing g e knowing k = k
 commit_event c j OfAnother g e knowing k = k
@@ -380,7 +380,7 @@ commit_event c j (OfJob o) (Some g) e knowing k =
     let out : is_out_by (worker_at c g.worker) j ≡ true =
     and_right open_job (is_out_by (worker_at c g.worker) j) (passed (open_job && is_out_by (worker_at c g.worker) j) NoJob both.0) in
     let live : is_live_worker (worker_at c g.worker) ≡ true = passed (is_live_worker (worker_at c g.worker)) Stale both.1 in
-    let d : Whole = with_committed c j (objects_made o.births) in
+    let d : ClusterState = with_committed c j (objects_made o.births) in
     worker_uses_event c d.jobs d.made c.delivered g.worker (λ h. commit_step h o) live knowing
     (λ x at node home lives node_lives u.
     let run : OutOf x.run j = out_of x.run j (ap (λ y. is_out_by y j) (sym at) ∙ out) in
@@ -388,12 +388,12 @@ commit_event c j (OfJob o) (Some g) e knowing k =
 
 -- ---- deliveries
 
-module _ (c d : Whole) (i w : ℕ) (from : Party) (x : Worker) (at : worker_at d w ≡ Some x) (there_too : worker_at c w ≡ Some x) (node : Node)
+module _ (c d : ClusterState) (i w : ℕ) (from : Endpoint) (x : Worker) (at : worker_at d w ≡ Some x) (there_too : worker_at c w ≡ Some x) (node : Node)
     (home : node_at c x.node ≡ Some node) (live : x.is_live ≡ true) (knowing : Knowing c) where
-  abbrev start : Here
+  abbrev start : WorkerContext
   start = here d w x node
 
-  abbrev Q : Here → Type 0
+  abbrev Q : WorkerContext → Type 0
   Q = Uses d w x.node x at None
 
   abbrev q_kept : IsKept AnyTold AnyOver GivenBy AnyPassed Q
@@ -403,7 +403,7 @@ module _ (c d : Whole) (i w : ℕ) (from : Party) (x : Worker) (at : worker_at d
   negated true e = absurd (cc)
   negated false e = refl
 
-  push_heard : (a : Attempt) (spec : Birth) → item_at c.network i ≡ Some (letter from (TheWorker w) (Push a spec)) → start.there.node ≡ node → Q start →
+  push_heard : (a : Attempt) (spec : Birth) → item_at c.network i ≡ Some (envelope from (TheWorker w) (Push a spec)) → start.there.node ≡ node → Q start →
       Q (push_reached start a spec)
   push_heard a spec sent same u =
       at_test (λ b. (is_free x.run && not (has_begun a x.began)) ≡ b → Q (if b then begins_run start a spec else start))
@@ -415,7 +415,7 @@ module _ (c d : Whole) (i w : ℕ) (from : Party) (x : Worker) (at : worker_at d
       (false_from_ne_true (has node.scheduler.idle w) (λ idle. both_ways (has node.scheduler.holders w) ((knowing.leases.nodes x.node node home).idle w idle).slotless slot)) u)
       (λ _ _. u) refl
 
-  heard_worker : (u : ℕ) → from ≡ TheWorker u → (m : Message) → item_at c.network i ≡ Some (letter from (TheWorker w) m) → Q start →
+  heard_worker : (u : ℕ) → from ≡ TheWorker u → (m : Message) → item_at c.network i ≡ Some (envelope from (TheWorker w) m) → Q start →
       IsHeardFrom AnyTold AnyOver GivenBy AnyPassed Q q_kept start (TheWorker u) m
   heard_worker u e (Push a spec) sent t = push_heard a spec sent refl t
   heard_worker u e (Finished a n rs) sent t = tt
@@ -456,26 +456,26 @@ module _ (c d : Whole) (i w : ℕ) (from : Party) (x : Worker) (at : worker_at d
   heard_node n (HoldAck h o) = tt
   heard_node n (Unhold h o why) = tt
 
-  reached_uses : (m : Message) → item_at c.network i ≡ Some (letter from (TheWorker w) m) → Q start → Q (reached start from m)
-  reached_uses m sent t = by_party from refl
+  reached_uses : (m : Message) → item_at c.network i ≡ Some (envelope from (TheWorker w) m) → Q start → Q (reached start from m)
+  reached_uses m sent t = by_endpoint from refl
     where
-      by_party : (s : Party) → from ≡ s → Q (reached start s m)
-      by_party (TheWorker u) e = reached-kept AnyTold AnyOver GivenBy AnyPassed Q q_kept start (TheWorker u) m (heard_worker u e m sent t) t
-      by_party (TheNode n) e = reached-kept AnyTold AnyOver GivenBy AnyPassed Q q_kept start (TheNode n) m (heard_node n m) t
+      by_endpoint : (s : Endpoint) → from ≡ s → Q (reached start s m)
+      by_endpoint (TheWorker u) e = reached-kept AnyTold AnyOver GivenBy AnyPassed Q q_kept start (TheWorker u) m (heard_worker u e m sent t) t
+      by_endpoint (TheNode n) e = reached-kept AnyTold AnyOver GivenBy AnyPassed Q q_kept start (TheNode n) m (heard_node n m) t
 
 -- a message reaches a live node
-node_event : (c : Whole) (delivered : List Bool) (n : ℕ) (from : Party) (m : Message) → Among (letter from (TheNode n) m) c.network →
+node_event : (c : ClusterState) (delivered : List Bool) (n : ℕ) (from : Endpoint) (m : Message) → Among (envelope from (TheNode n) m) c.network →
     is_live_node (node_at c n) ≡ true →
     Knowing c → KeepsUses c → KeepsUses (node_does (record c { delivered = delivered }) n (λ h. node_reached h from m)).whole
 node_event c delivered n from m came live knowing k = by_node (node_at c n) refl live
   where
-    d : Whole
+    d : ClusterState
     d = record c { delivered = delivered }
 
     by_node : (o : Option Node) → node_at c n ≡ o → is_live_node o ≡ true → KeepsUses (node_does_by d n (λ h. node_reached h from m) o).whole
     by_node None at e = k
     by_node (Some node) at e =
-        let t : There = there d n node in
+        let t : NodeContext = there d n node in
         let all : c.workers ++ [] ≡ c.workers = append-nil c.workers in
         let first : Used Nobody Nobody (λ v. item_at (c.workers ++ []) v) (c.network ++ []) n node.scheduler =
         subst (λ xs. Used Nobody Nobody (λ v. item_at xs v) (c.network ++ []) n node.scheduler) (sym all)
@@ -486,42 +486,42 @@ node_event c delivered n from m came live knowing k = by_node (node_at c n) refl
         (inl none) (u, asked_by a i u from_u is))
         first)
       where
-        asked_by : (a : Attempt) (i u : ℕ) → from ≡ TheWorker u → m ≡ Ask a i → Among (letter (TheWorker u) (TheNode n) (Ask a i)) c.network
+        asked_by : (a : Attempt) (i u : ℕ) → from ≡ TheWorker u → m ≡ Ask a i → Among (envelope (TheWorker u) (TheNode n) (Ask a i)) c.network
         asked_by a i u from_u is =
-            subst (λ z. Among (letter (TheWorker u) (TheNode n) z) c.network) is (subst (λ z. Among (letter z (TheNode n) m) c.network) from_u came)
+            subst (λ z. Among (envelope (TheWorker u) (TheNode n) z) c.network) is (subst (λ z. Among (envelope z (TheNode n) m) c.network) from_u came)
 
-letter_event : (c : Whole) (delivered : List Bool) (i : ℕ) (s to : Party) (m : Message) → item_at c.network i ≡ Some (letter s to m) → Knowing c →
+envelope_event : (c : ClusterState) (delivered : List Bool) (i : ℕ) (s to : Endpoint) (m : Message) → item_at c.network i ≡ Some (envelope s to m) → Knowing c →
     KeepsUses c →
-    KeepsUses (delivered_to (record c { delivered = delivered }) (letter s to m) to).whole
-letter_event c delivered i s (TheWorker w) m sent knowing k =
-    let d : Whole = record c { delivered = delivered } in
+    KeepsUses (delivered_to (record c { delivered = delivered }) (envelope s to m) to).whole
+envelope_event c delivered i s (TheWorker w) m sent knowing k =
+    let d : ClusterState = record c { delivered = delivered } in
     at_test (λ b. is_live_worker (worker_at c w) ≡ b → KeepsUses (if b then worker_does d w (λ h. reached h s m) else moved d).whole)
     (is_live_worker (worker_at c w))
     (λ _ e. worker_uses_event c c.jobs c.made delivered w (λ h. reached h s m) e knowing
     (λ x at node home lives node_lives u. reached_uses c d i w s x at at node home lives knowing m sent u) k)
     (λ _ _. k) refl
-letter_event c delivered i s (TheNode n) m sent knowing k =
-    let d : Whole = record c { delivered = delivered } in
+envelope_event c delivered i s (TheNode n) m sent knowing k =
+    let d : ClusterState = record c { delivered = delivered } in
     at_test (λ b. is_live_node (node_at c n) ≡ b →
     KeepsUses (if b then node_does d n (λ h. node_reached h s m) else moved d).whole) (is_live_node (node_at c n))
     (λ _ e. node_event c delivered n s m (among_at c.network i _ sent) e knowing k) (λ _ _. k) refl
 
-deliver_event : (c : Whole) (i : ℕ) (l : Option Letter) → item_at c.network i ≡ l → Knowing c → KeepsUses c → KeepsUses (delivered_by c i l).whole
+deliver_event : (c : ClusterState) (i : ℕ) (l : Option Envelope) → item_at c.network i ≡ l → Knowing c → KeepsUses c → KeepsUses (delivered_by c i l).whole
 deliver_event c i None at knowing k = k
-deliver_event c i (Some x) at knowing k = letter_event c (with_delivered c i).delivered i x.sender x.receiver x.message at knowing k
+deliver_event c i (Some x) at knowing k = envelope_event c (with_delivered c i).delivered i x.sender x.receiver x.message at knowing k
 
 -- ---- deaths
 
-kill_event : (c : Whole) (w : ℕ) → is_live_worker (worker_at c w) ≡ true → Knowing c → KeepsUses c → KeepsUses (killed_by c w (worker_at c w)).whole
+kill_event : (c : ClusterState) (w : ℕ) → is_live_worker (worker_at c w) ≡ true → Knowing c → KeepsUses c → KeepsUses (killed_by c w (worker_at c w)).whole
 kill_event c w live knowing k = by_worker (worker_at c w) refl live
   where
-    d : Whole
+    d : ClusterState
     d = record c { workers = changed_at c.workers w dead }
 
     with_node : (x : Worker) → worker_at c w ≡ Some x → (node : Node) → node_at c x.node ≡ Some node → node.is_live ≡ true →
         KeepsUses (node_does_by d x.node (λ h. forgets h w) (Some node)).whole
     with_node x at node home lives =
-        let t : There = there d x.node node in
+        let t : NodeContext = there d x.node node in
         let all : d.workers ++ [] ≡ d.workers = append-nil d.workers in
         let u : Used Nobody Nobody (worker_at c) c.network x.node node.scheduler = k x.node node home lives in
         let first : Used (One w) (One w) (λ v. item_at (d.workers ++ []) v) (c.network ++ []) x.node node.scheduler =
@@ -581,7 +581,7 @@ kill_event c w live knowing k = by_worker (worker_at c w) refl live
         let h = knowing.housed w x at e in
         subst (λ o. KeepsUses (node_does_by d x.node (λ t. forgets t w) o).whole) (sym h.1) (with_node x at h.0 h.1 h.2)
 
-kill_node_event : (c : Whole) (n : ℕ) → KeepsUses c → KeepsUses (record c { nodes = changed_at c.nodes n dead_node; workers = map (dies_with n) c.workers })
+kill_node_event : (c : ClusterState) (n : ℕ) → KeepsUses c → KeepsUses (record c { nodes = changed_at c.nodes n dead_node; workers = map (dies_with n) c.workers })
 kill_node_event c n k m node e live = elim (changed_cases c.nodes n m dead_node node e) [
   | inl (_, old, _, is) ↦ absurd (both_ways node.is_live (ap (λ (x : Node). x.is_live) is) live)
   | inr (apart, before) ↦ used_more Nobody Nobody (worker_at c) (λ v. item_at (map (dies_with n) c.workers) v) c.network c.network m node.scheduler (λ l i. i)
@@ -592,7 +592,7 @@ kill_node_event c n k m node e live = elim (changed_cases c.nodes n m dead_node 
     survives x other = at_test (λ b. (x.node == n) ≡ b → (if b then dead x else x) ≡ x) (x.node == n)
         (λ _ f. absurd (other (eqb-true x.node n f))) (λ _ _. refl) refl
 
-store_event : (c : Whole) (n : ℕ) (f : Node → Node) → ((node : Node) → (f node).scheduler ≡ node.scheduler) → ((node : Node) →
+store_event : (c : ClusterState) (n : ℕ) (f : Node → Node) → ((node : Node) → (f node).scheduler ≡ node.scheduler) → ((node : Node) →
     (f node).is_live ≡ node.is_live) →
     KeepsUses c → KeepsUses (record c { nodes = changed_at c.nodes n f })
 store_event c n f same lives k m node e live = elim (changed_cases c.nodes n m f node e) [
@@ -601,7 +601,7 @@ store_event c n f same lives k m node e live = elim (changed_cases c.nodes n m f
   | inr (_, at) ↦ k m node at live
 ]
 
-join_event : (c : Whole) → KeepsUses c → KeepsUses (record c { nodes = c.nodes ++ new_node c.slots ∷ [] })
+join_event : (c : ClusterState) → KeepsUses c → KeepsUses (record c { nodes = c.nodes ++ new_node c.slots ∷ [] })
 join_event c k n node e live = elim (push_cases c.nodes n (new_node c.slots) node e) [
   | inl old ↦ k n node old live
   | inr (_, is) ↦ subst (λ (x : Node). Used Nobody Nobody (worker_at c) c.network n x.scheduler) is
@@ -610,7 +610,7 @@ join_event c k n node e live = elim (push_cases c.nodes n (new_node c.slots) nod
 
 -- ---- every event
 
-happens_uses : (c : Whole) (e : Event) (handed : Handed) → refusal c e handed ≡ None → Knowing c → KeepsUses c → KeepsUses (happens c e handed).whole
+happens_uses : (c : ClusterState) (e : Event) (handed : CommitInput) → refusal c e handed ≡ None → Knowing c → KeepsUses c → KeepsUses (happens c e handed).whole
 happens_uses c (Claim w) handed e knowing k = claim_event c w e knowing k
 happens_uses c (Commit j) handed e knowing k = commit_event c j handed (item_at c.jobs j) e knowing k
 happens_uses c (Deliver i) handed e knowing k = deliver_event c i (item_at c.network i) refl knowing k
@@ -634,18 +634,18 @@ happens_uses c (Kill w) handed e knowing k = kill_event c w (passed (is_live_wor
 happens_uses c (KillNode n) handed e knowing k = kill_node_event c n k
 happens_uses c Join handed e knowing k = join_event c k
 
-limited_uses : (c : Whole) (m : Moved) (b : Bool) (given : Option Job) → KeepsUses c → KeepsUses m.whole →
+limited_uses : (c : ClusterState) (m : Transition) (b : Bool) (given : Option Job) → KeepsUses c → KeepsUses m.whole →
     KeepsUses (whole_after c (if b then takes m given else Refuses Limit))
 limited_uses c m true given k l = l
 limited_uses c m false given k l = k
 
-decided_uses : (c : Whole) (e : Event) (handed : Handed) (code : Option Refusal) → refusal c e handed ≡ code → Knowing c → KeepsUses c →
+decided_uses : (c : ClusterState) (e : Event) (handed : CommitInput) (code : Option Refusal) → refusal c e handed ≡ code → Knowing c → KeepsUses c →
     KeepsUses (whole_after c (decided c e handed code))
 decided_uses c e handed None unrefused knowing k =
     limited_uses c (happens c e handed) (is_within_limits (happens c e handed).whole) (given_out c e) k (happens_uses c e handed unrefused knowing k)
 decided_uses c e handed (Some code) refused knowing k = k
 
-pub events_keep_uses : (c : Whole) (e : Event) (handed : Handed) → Knowing c → KeepsUses c → KeepsUses (whole_after c (answer c e handed))
+pub events_keep_uses : (c : ClusterState) (e : Event) (handed : CommitInput) → Knowing c → KeepsUses c → KeepsUses (whole_after c (answer c e handed))
 events_keep_uses c e handed knowing k = decided_uses c e handed (refusal c e handed) refl knowing k
 
 -- ---- the opening

@@ -5,8 +5,8 @@ use Rattle.meaning.proofs.BirthLaws.{same_id-refl}
 use Rattle.meaning.specs.Births.{same_id}
 use Rattle.meaning.specs.Values.{Id}
 use Rattle.event_log.specs.Entries.{Faulted}
-use Rattle.protocol.specs.Tables.{HasEnded, HasFaulted, Out, Phase, Ready, Run, Waits, is_same_id, is_waiting_for, knows_dead, needed_by, object_needed}
-use Rattle.protocol.specs.Steps.{Here, is_own, logs, with_phase, with_run}
+use Rattle.protocol.specs.Tables.{HasEnded, HasFaulted, Out, Phase, Ready, Execution, Waits, is_same_id, is_waiting_for, knows_dead, needed_by, object_needed}
+use Rattle.protocol.specs.Steps.{WorkerContext, is_own, logs, with_phase, with_run}
 use Rattle.protocol.specs.Runs.{gives_slot_back}
 use Rattle.protocol.specs.Commits.{asks_where}
 use Rattle.protocol.specs.Releases.{release_step}
@@ -16,10 +16,10 @@ use Rattle.smallest_steps.proofs.Smallest.{AnyPassed, AnyTold, KeepsHere, KeepsO
 use Rattle.smallest_steps.proofs.Moves as S
 
 module _ (y : Id) where
-  abbrev pub NeedsOnly : Option Run → Type 0
+  abbrev pub NeedsOnly : Option Execution → Type 0
   NeedsOnly r = (z : Id) → needed_by r ≡ Some z → z ≡ y
 
-  abbrev pub WaitsOnly : Here → Type 0
+  abbrev pub WaitsOnly : WorkerContext → Type 0
   WaitsOnly h = NeedsOnly h.worker.run
 
   none_needed : (z : Id) → ◌≡◌ {A = Option Id} None (Some z) → z ≡ y
@@ -73,16 +73,16 @@ module _ (y : Id) where
   }
 
   -- it looks for the object
-  pub asks_where-waits : (h : Here) → WaitsOnly h → WaitsOnly (asks_where h y)
+  pub asks_where-waits : (h : WorkerContext) → WaitsOnly h → WaitsOnly (asks_where h y)
   asks_where-waits h w =
       S.either WaitsOnly (is_own h y) _ _ (S.needs_own-kept WaitsOnly keeps h y w)
       (S.either WaitsOnly (knows_dead h.worker y.owner) _ _ (S.faults-kept WaitsOnly keeps h _ w) w)
 
   -- an attempt that rests waits for it
-  pub rests_waits : (h : Here) → WaitsOnly h → pace_by h.worker.run ≡ Rests → is_waiting_for h.worker y ≡ true
+  pub rests_waits : (h : WorkerContext) → WaitsOnly h → pace_by h.worker.run ≡ Rests → is_waiting_for h.worker y ≡ true
   rests_waits h w e = by_run h.worker.run w e
     where
-      by_phase : (run : Run) (p : Phase) → run.phase ≡ p → NeedsOnly (Some run) → pace_in p ≡ Rests →
+      by_phase : (run : Execution) (p : Phase) → run.phase ≡ p → NeedsOnly (Some run) → pace_in p ≡ Rests →
           is_same_id (object_needed run.phase) y ≡ true
       by_phase run (Waits z f) q n g =
           ap (λ p. is_same_id (object_needed p) y) q ∙ ap (λ i. same_id i y) (n z (ap object_needed q)) ∙ same_id-refl y
@@ -91,10 +91,10 @@ module _ (y : Id) where
       by_phase run (HasEnded c) q n g = absurd (cc)
       by_phase run (HasFaulted f) q n g = absurd (cc)
 
-      by_run : (r : Option Run) → NeedsOnly r → pace_by r ≡ Rests → is_same_id (needed_by r) y ≡ true
+      by_run : (r : Option Execution) → NeedsOnly r → pace_by r ≡ Rests → is_same_id (needed_by r) y ≡ true
       by_run None n g = absurd (cc)
       by_run (Some run) n g = by_phase run run.phase refl n g
 
   -- to the end of the event
-  pub release_step-waits : (h : Here) → WaitsOnly h → WaitsOnly (release_step h)
+  pub release_step-waits : (h : WorkerContext) → WaitsOnly h → WaitsOnly (release_step h)
   release_step-waits h w = S.release_step-kept WaitsOnly keeps h w

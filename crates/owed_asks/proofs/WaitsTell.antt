@@ -9,7 +9,7 @@ use Rattle.event_log.specs.Rules.{Setting, Stops}
 use Rattle.event_log.specs.Words.{answers_of, births, own_births}
 use Rattle.protocol.specs.Tables.{Fetching, HasEnded, HasFaulted, Out, Phase, Ready, Waits, Worker}
 use Rattle.protocol.specs.Tables as T
-use Rattle.protocol.specs.Whole.{Whole, worker_at}
+use Rattle.protocol.specs.Cluster.{ClusterState, worker_at}
 use Rattle.lease_discipline.specs.of_protocol_legal.Knows.{KnowsPhase, KnowsRun, piece_of}
 use Rattle.lease_discipline.specs.of_protocol_legal.Whole.{Between, setting_of}
 use Rattle.protocol_owed.specs.Courses.{Rests, WaitsFor, course}
@@ -55,11 +55,11 @@ stops_alike n run base other answers p (b ∷ bs) vs y z e f same stop =
 
 -- ---- a worker that waits
 
-pub record IsWaitingHere (c : Whole) (w : ℕ) (a : Attempt) (y : Id) : Type 0 where
+pub record IsWaitingHere (c : ClusterState) (w : ℕ) (a : Attempt) (y : Id) : Type 0 where
   pub worker : Worker
   pub there : worker_at c w ≡ Some worker
   pub lives : worker.is_live ≡ true
-  pub run : T.Run
+  pub run : T.Execution
   pub at : worker.run ≡ Some run
   pub present : run.attempt ≡ a
   pub fetching : Option Fetching
@@ -75,13 +75,13 @@ waits_for s r step w a y waits =
     b : Between s r.log r.whole
     b = step.sound.between
 
-    same_attempt_of : (run : T.Run) → ◌≡◌ {A = Option Attempt} (Some run.attempt) (Some a) → run.attempt ≡ a
+    same_attempt_of : (run : T.Execution) → ◌≡◌ {A = Option Attempt} (Some run.attempt) (Some a) → run.attempt ≡ a
     same_attempt_of run e = cc
 
     same_birth : (v u : Birth) → ◌≡◌ {A = Option Birth} (Some v) (Some u) → v ≡ u
     same_birth v u e = cc
 
-    alike : (x : Worker) → worker_at r.whole w ≡ Some x → x.is_live ≡ true → (run : T.Run) → x.run ≡ Some run → run.attempt ≡ a →
+    alike : (x : Worker) → worker_at r.whole w ≡ Some x → x.is_live ≡ true → (run : T.Execution) → x.run ≡ Some run → run.attempt ≡ a →
         (z : Id) (f : Option Fetching) →
         run.phase ≡ Waits z f → y ≡ z
     alike x there lives run at present z f phase =
@@ -95,7 +95,7 @@ waits_for s r step w a y waits =
         (stops.replays.replayed ∙ ap (λ i. replay s.script i stops.base (answers_of a r.log)) spec ∙ ap (replay s.script run.spec stops.base) answers) q.1
         (sym stops.own ∙ ap (λ i. own_births i r.log) (sym present) ∙ k.own) stops.stopped
 
-    by_phase : (x : Worker) → worker_at r.whole w ≡ Some x → x.is_live ≡ true → (run : T.Run) → x.run ≡ Some run → run.attempt ≡ a → (p : Phase) →
+    by_phase : (x : Worker) → worker_at r.whole w ≡ Some x → x.is_live ≡ true → (run : T.Execution) → x.run ≡ Some run → run.attempt ≡ a → (p : Phase) →
         run.phase ≡ p → pace_in p ≡ Rests → IsWaitingHere r.whole w a y
     by_phase x there lives run at present (Waits z f) e g =
         let is : y ≡ z = alike x there lives run at present z f e in
@@ -114,7 +114,7 @@ waits_for s r step w a y waits =
     by_phase x there lives run at present (HasEnded c) e g = absurd (cc)
     by_phase x there lives run at present (HasFaulted f) e g = absurd (cc)
 
-    by_run : (x : Worker) → worker_at r.whole w ≡ Some x → x.is_live ≡ true → (o : Option T.Run) → x.run ≡ o → attempt_by o ≡ Some a → pace_by o ≡ Rests →
+    by_run : (x : Worker) → worker_at r.whole w ≡ Some x → x.is_live ≡ true → (o : Option T.Execution) → x.run ≡ o → attempt_by o ≡ Some a → pace_by o ≡ Rests →
         IsWaitingHere r.whole w a y
     by_run x there lives None at last pace = absurd (cc)
     by_run x there lives (Some run) at last pace = by_phase x there lives run at (same_attempt_of run last) run.phase refl pace

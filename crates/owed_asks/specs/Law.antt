@@ -8,7 +8,7 @@ use Rattle.protocol.specs.Answers.{Step, Takes}
 use Rattle.protocol.specs.Messages.{TheWorker, Where}
 use Rattle.protocol.specs.Numbered.{item_at}
 use Rattle.protocol.specs.Tables.{AskedAt, OwnTask, Worker, task_of}
-use Rattle.protocol.specs.Whole.{Whole, worker_at}
+use Rattle.protocol.specs.Cluster.{ClusterState, worker_at}
 use Rattle.lease_discipline.specs.of_protocol_laws.Coming.{IsRight}
 use Rattle.protocol_owed.specs.Replies.{BirthIsAsked, CopyIsGot, ElsewhereIsAsked, GiveIsBegun, Happening, NewlyWaits, Says}
 use Rattle.protocol_owed.specs.Runs.{Handing, Running, after_event, after_events, answer_to, opening_run, seen}
@@ -24,7 +24,7 @@ happening s r g step =
       before = seen s r;
       event = g.event;
       entries = step.entries;
-      letters = step.letters;
+      envelopes = step.envelopes;
       after = seen s (after_event r g);
     }
 
@@ -71,7 +71,7 @@ SlotsAreAllRight =
 -- ---- numbers of asks
 
 -- the number of each ask that was sent, and of each that stands, is less than how many messages were sent
-pub record AsksAreNumberedLow (c : Whole) : Type 0 where
+pub record AsksAreNumberedLow (c : ClusterState) : Type 0 where
   pub sent : (a : Attempt) (t n : ℕ) → Asked c.network a t n → t < length c.network
   pub standing : (v k : ℕ) (x : Worker) (task : OwnTask) (t n : ℕ) → worker_at c v ≡ Some x → task_of (item_at x.objects k) ≡ Some task →
       task.progress ≡ AskedAt t n → t < length c.network

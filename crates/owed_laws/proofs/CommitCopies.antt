@@ -15,8 +15,8 @@ use Rattle.protocol.specs.Holders.{holds_ids, passes_on}
 use Rattle.protocol.specs.Jobs.{AtEnd, AtGet, Outcomes, Stopped, stop_of}
 use Rattle.protocol.specs.Runs.{leaves_if_free}
 use Rattle.protocol.specs.Stores.{with_ended, with_primary}
-use Rattle.protocol.specs.Steps.{Here, logs_all, own_id, store_here, with_phase, with_run, with_store}
-use Rattle.protocol.specs.Tables.{HasEnded, Run, put_object}
+use Rattle.protocol.specs.Steps.{WorkerContext, logs_all, own_id, store_here, with_phase, with_run, with_store}
+use Rattle.protocol.specs.Tables.{HasEnded, Execution, put_object}
 use Rattle.owed_asks.proofs.of_protocol_legal.Bearing.{still_holds}
 use Rattle.protocol_owed.proofs.Owing.{next_birth}
 use Rattle.smallest_steps.proofs.Over.{each_from-kept}
@@ -30,7 +30,7 @@ use Rattle.owed_laws.proofs.StoreMoves.{IsKept, Stores, stores_now}
 -- ---- a copy that is there stays there
 
 module _ (o : Id) (n : ℕ) where
-  abbrev pub IsStored : Here → Type 0
+  abbrev pub IsStored : WorkerContext → Type 0
   IsStored h = Stores (store_here h) o n
 
   there_stored : S.KeepsSlots (λ t. Stores t.node.store o n)
@@ -64,7 +64,7 @@ born_own a b next o x (y ∷ bs) vs stop (suc k, e) = born_own a b (behind next 
 born_own a b next o x [] vs stop i = absurd (no_birth a b next o vs stop x i)
 
 -- each put that the commit bears is in the store
-births_stored : (bs : List Birth) (h : Here) (a : Attempt) (vs : List Value) (stop : Stop) (o : Id) (b : Attempt) (v : Value) →
+births_stored : (bs : List Birth) (h : WorkerContext) (a : Attempt) (vs : List Value) (stop : Stop) (o : Id) (b : Attempt) (v : Value) →
     Among (Born o b (Put v)) (commit_entries a (next_id_here h) bs vs stop) → IsStored o 0 (bears_all h a bs)
 births_stored [] h a vs stop o b v born = absurd (no_birth a b (next_id_here h) o vs stop (Put v) born)
 births_stored (Task g args depth retries others ∷ bs) h a vs stop o b v (zero, e) = absurd (cc)
@@ -72,7 +72,7 @@ births_stored (Put u ∷ bs) h a vs stop o b v (zero, e) =
     let same : next_id_here h ≡ o = cc in
     let ids : List Id = each_once (ids_of_birth (Put u)) in
     let p : Id = next_id_here h in
-    let g : Here = with_store (with_objects h (put_object a ids h.worker.node ∷ [])) (with_primary (store_here h) p 0 (Val u)) in
+    let g : WorkerContext = with_store (with_objects h (put_object a ids h.worker.node ∷ [])) (with_primary (store_here h) p 0 (Val u)) in
     let held : IsStored p 0 (bears h a (Put u)) = M.holds_ids-kept (IsStored p 0) (stored_stays p 0) g p ids (stores_now (store_here h) p 0 (Val u)) in
     subst (λ i. IsStored i 0 (bears_all h a (Put u ∷ bs))) same (M.bears_all-kept (IsStored p 0) (stored_stays p 0) (bears h a (Put u)) a bs held)
 births_stored (b ∷ bs) h a vs stop o d v (suc k, e) =
@@ -82,15 +82,15 @@ births_stored (b ∷ bs) h a vs stop o d v (suc k, e) =
 -- ---- ends
 
 -- the attempt stays the one that it was
-abbrev Runs : Attempt → Here → Type 0
-Runs a h = (run : Run) × (h.worker.run ≡ Some run) × (run.attempt ≡ a)
+abbrev Runs : Attempt → WorkerContext → Type 0
+Runs a h = (run : Execution) × (h.worker.run ≡ Some run) × (run.attempt ≡ a)
 
-held_runs : (a : Attempt) (h : Here) (e : Id) (os : List Id) → Runs a h → Runs a (holds_ids h e os)
+held_runs : (a : Attempt) (h : WorkerContext) (e : Id) (os : List Id) → Runs a h → Runs a (holds_ids h e os)
 held_runs a h e os (run, is, same) =
     let s = still_holds h.me h.worker.node (length h.worker.objects) run e h os (record { me = refl; node = refl; count = refl; holds = run.holds; runs = is }) in
     (record run { holds = s.holds }, s.runs, same)
 
-bears_runs : (a : Attempt) (h : Here) (b : Birth) → Runs a h → Runs a (bears h a b)
+bears_runs : (a : Attempt) (h : WorkerContext) (b : Birth) → Runs a h → Runs a (bears h a b)
 bears_runs a h (Put v) r =
     let ids : List Id = each_once (ids_of_birth (Put v)) in
     held_runs a (with_store (with_objects h (put_object a ids h.worker.node ∷ [])) (with_primary (store_here h) (next_id_here h) 0 (Val v))) (next_id_here h) ids r
@@ -101,7 +101,7 @@ bears_runs a h (Task g args depth retries others) r =
     each_from-kept (Runs a) (λ x k. holds_ids x (own_id x k) ids) (λ x k q. held_runs a x (own_id x k) ids q)
     (with_objects h (task_objects a o.serial spec others ids)) o.serial (suc others) r
 
-bears_all_runs : (a : Attempt) (bs : List Birth) (h : Here) → Runs a h → Runs a (bears_all h a bs)
+bears_all_runs : (a : Attempt) (bs : List Birth) (h : WorkerContext) → Runs a h → Runs a (bears_all h a bs)
 bears_all_runs a [] h r = r
 bears_all_runs a (b ∷ bs) h r = bears_all_runs a bs (bears h a b) (bears_runs a h b r)
 
@@ -115,15 +115,15 @@ end_logged a b c o [] [] (Over d) (suc k, e) = absurd (cc)
 end_logged a b c o [] [] (Needs y) (k, e) = absurd (cc)
 
 -- each content that isn't small is in the store
-content_stored : (h : Here) (o : Id) (n : ℕ) (c : Outcome) → is_small c ≡ false → IsStored o n (keeps_content h o n c)
+content_stored : (h : WorkerContext) (o : Id) (n : ℕ) (c : Outcome) → is_small c ≡ false → IsStored o n (keeps_content h o n c)
 content_stored h o n c big =
     let ids : List Id = each_once (ids_in_outcome c) in
-    let g : Here = passes_on (with_store h (with_ended (store_here h) o n c)) o ids in
+    let g : WorkerContext = passes_on (with_store h (with_ended (store_here h) o n c)) o ids in
     let now : Stores (with_ended (store_here h) o n c) o n =
     subst (λ b. Stores (if b then store_here h else with_primary (store_here h) o n c) o n) (sym big) (stores_now (store_here h) o n c) in
     M.holds_ids-kept (IsStored o n) (stored_stays o n) g o ids now
 
-contents_stored : (cs : List Outcome) (h : Here) (o : Id) (n i : ℕ) (c : Outcome) → slice_get cs i ≡ Some c → is_small c ≡ false →
+contents_stored : (cs : List Outcome) (h : WorkerContext) (o : Id) (n i : ℕ) (c : Outcome) → slice_get cs i ≡ Some c → is_small c ≡ false →
     IsStored (object_id o.owner (o.serial + i)) n (keeps_contents h o n cs)
 contents_stored [] h o n i c e big = absurd (cc)
 contents_stored (d ∷ cs) h o n zero c e big =
@@ -142,12 +142,12 @@ contents_stored (d ∷ cs) h o n (suc i) c e big =
     one_more : (m j : ℕ) → (m + 1) + j ≡ m + suc j
     one_more m j = omega arith
 
-ends_stored : (h : Here) (run : Run) (cs : List Outcome) (i : ℕ) (c : Outcome) → slice_get cs i ≡ Some c → is_small c ≡ false →
+ends_stored : (h : WorkerContext) (run : Execution) (cs : List Outcome) (i : ℕ) (c : Outcome) → slice_get cs i ≡ Some c → is_small c ≡ false →
     IsStored (object_id run.attempt.object.owner (run.attempt.object.serial + i)) run.attempt.number (stops_by h (AtEnd cs) (Some run))
 ends_stored h run cs i c e big =
     let o : Id = object_id run.attempt.object.owner (run.attempt.object.serial + i) in
     let n : ℕ = run.attempt.number in
-    let held : Here = keeps_contents (with_phase h run (HasEnded cs)) run.attempt.object n cs in
+    let held : WorkerContext = keeps_contents (with_phase h run (HasEnded cs)) run.attempt.object n cs in
     let kept = stored_stays o n in
     kept.frees (leaves_if_free held)
     (M.leaves_if_free-kept (IsStored o n) kept held (contents_stored cs (with_phase h run (HasEnded cs)) run.attempt.object n i c e big))
@@ -158,14 +158,14 @@ stop_ends (AtEnd d) cs e = let f : d ≡ cs = cc in ap AtEnd f
 
 -- ---- the commit
 
-module _ (h : Here) (d : Outcomes) (run : Run) (at : h.worker.run ≡ Some run) where
+module _ (h : WorkerContext) (d : Outcomes) (run : Execution) (at : h.worker.run ≡ Some run) where
   abbrev pub es : List Entry
   es = commit_entries run.attempt (next_id_here h) d.births d.prints (stop_of d.stop)
 
-  abbrev logged : Here
+  abbrev logged : WorkerContext
   logged = logs_all (with_run h (with_outcomes run d)) es
 
-  abbrev borne : Here
+  abbrev borne : WorkerContext
   borne = bears_all logged run.attempt d.births
 
   -- what it logs is there

@@ -1,5 +1,5 @@
 -- The events of a worker, one by one: claims, commits, deliveries, ticks and notices keep what is true of Pushes and Holds.
-use Rattle.protocol.specs.Steps.{Here, logs, with_phase, with_task_of, with_worker}
+use Rattle.protocol.specs.Steps.{WorkerContext, logs, with_phase, with_task_of, with_worker}
 use Rattle.meaning.specs.Births.{birth_at}
 use Rattle.meaning.specs.Values.{Birth, Id, main_birth, others_of, Outcome, results_of}
 use Rattle.meaning.proofs.BirthLaws.{at_test, is_made, same_id-refl}
@@ -9,7 +9,7 @@ use Rattle.event_log.proofs.Extending.{births-more}
 use Rattle.protocol.specs.Asking.{rests}
 use Rattle.protocol.specs.Ends.{finished_reached, settles}
 use Rattle.protocol.specs.Sets.{object_id}
-use Rattle.protocol.specs.Tables.{has_stopped, Holding, new_run, Object, Out, Run, Worker}
+use Rattle.protocol.specs.Tables.{has_stopped, Holding, new_run, Object, Out, Execution, Worker}
 use Rattle.smallest_steps.proofs.Over.{settles-kept}
 use Rattle.std.proofs.Common.{[], ap, append-nil, arith, inl, inr, length, List, None, Option, refl, Some, subst, suc, sym, zero, ℕ, ◌++◌, ◌+◌, ◌<◌, ◌∙◌, ◌∷◌}
 use Rattle.std.proofs.Common.{◌≡◌, ◌≤◌}
@@ -29,21 +29,21 @@ use Rattle.event_log.proofs.WordLaws.{same_attempt-true}
 use Rattle.protocol.specs.Commits.{claim_by, claim_step, commit_step, next_id_here}
 use Rattle.protocol.specs.Deliveries.{reached}
 use Rattle.protocol.specs.Holders.{hold_ack_reached, holding}
-use Rattle.protocol.specs.Jobs.{AtEnd, Given, Outcomes, stop_of}
-use Rattle.protocol.specs.Messages.{EndedResult, Hold, HoldAck, Letter, letter, Message, Party, Push, TheNode, TheWorker}
+use Rattle.protocol.specs.Jobs.{AtEnd, JobRecord, Outcomes, stop_of}
+use Rattle.protocol.specs.Messages.{EndedResult, Hold, HoldAck, Envelope, envelope, Message, Endpoint, Push, TheNode, TheWorker}
 use Rattle.protocol.specs.Nodes.{Node}
 use Rattle.protocol.specs.Numbered.{changed_at, item_at}
 use Rattle.protocol.specs.Releases.{release_step}
 use Rattle.protocol.specs.Runs.{begins_run, is_free, tells_stop}
 use Rattle.protocol.specs.Notices.{is_unheard}
 use Rattle.protocol.specs.Ticks.{asks_again, sends_holds, sends_run, sends_tasks, tick_step}
-use Rattle.protocol.specs.Whole.{Moved, Whole, here, node_at, worker_at}
+use Rattle.protocol.specs.Cluster.{Transition, ClusterState, here, node_at, worker_at}
 use Rattle.owed_asks.specs.of_protocol_legal.Knows.{GoesOn, KnowsPhase, KnowsRun, KnowsWorker}
 use Rattle.owed_asks.specs.of_protocol_legal.Past.{past}
 use Rattle.owed_asks.specs.of_protocol_legal.Says.{IsPushed, Says}
 use Rattle.owed_asks.specs.of_protocol_legal.Whole.{Between, setting_of}
 use Rattle.protocol_owed.specs.Courses.{has_begun}
-use Rattle.protocol_owed.proofs.Letters.{among-append_cases, among-behind, among-nothing}
+use Rattle.protocol_owed.proofs.Envelopes.{among-append_cases, among-behind, among-nothing}
 use Rattle.protocol_owed.proofs.Nodes.{there_more}
 use Rattle.smallest_steps.proofs.Untouched.{asks_again-worker, sends_holds-worker, sends_tasks-worker, tells_stop-worker}
 use Rattle.owed_asks.specs.of_lease_discipline.Told.{IsInStep}
@@ -68,19 +68,19 @@ use Rattle.owed_laws.proofs.HoldMoves.{RunHolds, ack_of, item_within}
 use Rattle.owed_laws.proofs.Speaking as P
 use Rattle.owed_laws.proofs.Speaking.{Speaks, speaks_kept}
 
-some_run : (x y : Run) → ◌≡◌ {A = Option Run} (Some x) (Some y) → x ≡ y
+some_run : (x y : Execution) → ◌≡◌ {A = Option Execution} (Some x) (Some y) → x ≡ y
 some_run x y e = cc
 
 -- a tick leaves the worker as it is
-sends_run-worker : (h : Here) (r : Option Run) → (sends_run h r).worker ≡ h.worker
+sends_run-worker : (h : WorkerContext) (r : Option Execution) → (sends_run h r).worker ≡ h.worker
 sends_run-worker h None = refl
 sends_run-worker h (Some run) =
-    let again : Here = asks_again h run.phase in
-    let held : Here = sends_holds again run.holds in
+    let again : WorkerContext = asks_again h run.phase in
+    let held : WorkerContext = sends_holds again run.holds in
     at_test (λ t. (if t then tells_stop held run run.phase else held).worker ≡ held.worker) (is_unheard run) (λ _. tells_stop-worker held run run.phase) (λ _. refl) ∙
     sends_holds-worker again run.holds ∙ asks_again-worker h run.phase
 
-tick-worker : (h : Here) → (tick_step h).worker ≡ h.worker
+tick-worker : (h : WorkerContext) → (tick_step h).worker ≡ h.worker
 tick-worker h = sends_run-worker (sends_tasks h) h.worker.run ∙ sends_tasks-worker h
 
 -- an acknowledgement of a Hold
@@ -88,45 +88,45 @@ abbrev pub is_ack : Message → Bool
 is_ack (HoldAck e o) = true
 is_ack _ = false
 
-module _ (s : Setting) (log : List Entry) (c : Whole) (step : IsInStep s log c) (replies : KeepsReplies log c) (k : KeepsHolds log c) (seat : ℕ) where
-  abbrev pub After : Event → Moved → Type 0
+module _ (s : Setting) (log : List Entry) (c : ClusterState) (step : IsInStep s log c) (replies : KeepsReplies log c) (k : KeepsHolds log c) (seat : ℕ) where
+  abbrev pub After : Event → Transition → Type 0
   After e m = V.After s log c step replies k seat e m
 
-  abbrev pub Goes : (e : Event) (m : Moved) → After e m → Type 0
+  abbrev pub Goes : (e : Event) (m : Transition) → After e m → Type 0
   Goes e m a = V.Goes s log c step replies k seat e m a
 
   abbrev b : Between s log c
   b = step.sound.between
 
-  module _ (e : Event) (jobs : List Given) (made : ℕ) (delivered : List Bool) (me : ℕ) (x : Worker) (at : worker_at c me ≡ Some x) (live : x.is_live ≡ true)
+  module _ (e : Event) (jobs : List JobRecord) (made : ℕ) (delivered : List Bool) (me : ℕ) (x : Worker) (at : worker_at c me ≡ Some x) (live : x.is_live ≡ true)
       (node : Node) (home : node_at c x.node ≡ Some node) where
-    abbrev pub start : Here
+    abbrev pub start : WorkerContext
     start = V.start s log c step replies k seat e jobs made delivered me x at live node home (here (record c { jobs = jobs; made = made; delivered = delivered }) me x node)
 
-    abbrev pub Done : Here → Moved
+    abbrev pub Done : WorkerContext → Transition
     Done g = V.done s log c step replies k seat e jobs made delivered me x at live node home g
 
-    abbrev RunsAs : (g : Here) (r : Run) → x.run ≡ Some r → Here → Type 0
+    abbrev RunsAs : (g : WorkerContext) (r : Execution) → x.run ≡ Some r → WorkerContext → Type 0
     RunsAs g r is h = V.RunsAs s log c step replies k seat e jobs made delivered me x at live node home g r is h
 
-    abbrev IdlesAs : (g : Here) → Here → Type 0
+    abbrev IdlesAs : (g : WorkerContext) → WorkerContext → Type 0
     IdlesAs g h = V.IdlesAs s log c step replies k seat e jobs made delivered me x at live node home g h
 
     start_speaks : (X Y : Type 0) → Speaks X Y me start
     start_speaks X Y = V.start_speaks s log c step replies k seat e jobs made delivered me x at live node home start X Y
 
-    says_none : (g : Here) → Speaks ⊥ (Unit {0}) me g → (v : ℕ) (f o : Id) → Among (letter (TheWorker me) (TheWorker v) (Hold f o)) (release_step g).there.out.letters → ⊥
+    says_none : (g : WorkerContext) → Speaks ⊥ (Unit {0}) me g → (v : ℕ) (f o : Id) → Among (envelope (TheWorker me) (TheWorker v) (Hold f o)) (release_step g).there.out.envelopes → ⊥
     says_none g p v f o i = (release_step-kept (Speaks ⊥ (Unit {0}) me) (speaks_kept ⊥ (Unit {0}) me) g p).said v (Hold f o) i
 
     abbrev pub ToMe : Type 0
-    ToMe = (n w : ℕ) (from : Party) (l : Message) → e ≡ Deliver n → item_at c.network n ≡ Some (letter from (TheWorker w) l) → w ≡ me
+    ToMe = (n w : ℕ) (from : Endpoint) (l : Message) → e ≡ Deliver n → item_at c.network n ≡ Some (envelope from (TheWorker w) l) → w ≡ me
 
-    abbrev pub Unheard : Here → Type 0
-    Unheard g = (run : Run) → (release_step g).worker.run ≡ Some run → (j : Holding) → Among j run.holds → (n : ℕ) → e ≡ Deliver n →
+    abbrev pub Unheard : WorkerContext → Type 0
+    Unheard g = (run : Execution) → (release_step g).worker.run ≡ Some run → (j : Holding) → Among j run.holds → (n : ℕ) → e ≡ Deliver n →
         item_at c.network n ≡ Some (ack_of me j) → ⊥
 
     -- a step that begins and commits nothing, and says no Hold
-    pub plain_goes : (g : Here) → ((X : Type 0) (Q : Here → Type 0) → IsKeptWhere X (Unit {0}) Q → Q start → Q g) → (a : After e (Done g)) → ToMe → Unheard g → Goes e (Done g) a
+    pub plain_goes : (g : WorkerContext) → ((X : Type 0) (Q : WorkerContext → Type 0) → IsKeptWhere X (Unit {0}) Q → Q start → Q g) → (a : After e (Done g)) → ToMe → Unheard g → Goes e (Done g) a
     plain_goes g kept a to_me unheard =
         V.goes_on s log c step replies k seat e jobs made delivered me x at live node home g a to_me
         (λ r is. kept (Unit {0}) (RunsAs g r is) (H.holds_kept _ _ _ _ _ _ _ _ _ _) (V.start_runs s log c step replies k seat e jobs made delivered me x at live node home g r is))
@@ -136,8 +136,8 @@ module _ (s : Setting) (log : List Entry) (c : Whole) (step : IsInStep s log c) 
 
     -- ---- a tick
 
-    over_said : (r : Run) → x.run ≡ Some r → r.is_over ≡ true → (v : ℕ) (f o : Id) →
-        Among (letter (TheWorker me) (TheWorker v) (Hold f o)) (release_step (tick_step start)).there.out.letters → ⊥
+    over_said : (r : Execution) → x.run ≡ Some r → r.is_over ≡ true → (v : ℕ) (f o : Id) →
+        Among (envelope (TheWorker me) (TheWorker v) (Hold f o)) (release_step (tick_step start)).there.out.envelopes → ⊥
     over_said r is over v f o i =
         says_none (tick_step start) (P.quiet_tick ⊥ (Unit {0}) me tt start r is ((k.runs me x r at is).holds.over over) (start_speaks ⊥ (Unit {0}))) v f o i
 
@@ -145,14 +145,14 @@ module _ (s : Setting) (log : List Entry) (c : Whole) (step : IsInStep s log c) 
     tick_same = release_step-run (tick_step start) ∙ ap (λ (y : Worker). y.run) (tick-worker start)
 
     pub tick_goes : (a : After e (Done (tick_step start))) → ToMe → ((n : ℕ) → e ≡ Deliver n → ⊥) → Goes e (Done (tick_step start)) a
-    tick_goes a to_me no_letter =
-        let g : Here = tick_step start in
+    tick_goes a to_me no_envelope =
+        let g : WorkerContext = tick_step start in
         V.goes_on s log c step replies k seat e jobs made delivered me x at live node home g a to_me
         (λ r is. R.tick_step-kept (RunsAs g r is) (H.holds_kept _ _ _ _ _ _ _ _ _ _) start tt tt
         (V.start_runs s log c step replies k seat e jobs made delivered me x at live node home g r is))
         (λ is. R.tick_step-kept (IdlesAs g) (H.holds_kept _ _ _ _ _ _ _ _ _ _) start tt tt
         (V.start_idles s log c step replies k seat e jobs made delivered me x at live node home g is))
-        (λ run i j there n is ack. no_letter n is)
+        (λ run i j there n is ack. no_envelope n is)
         (R.tick_step-kept (Speaks (Unit {0}) (Unit {0}) me) (speaks_kept (Unit {0}) (Unit {0}) me) start tt tt (start_speaks (Unit {0}) (Unit {0})))
         (λ u v d spec f o part i pushed unbegun. by_run v f o i (free a u d spec pushed unbegun) x.run refl)
       where
@@ -168,32 +168,32 @@ module _ (s : Setting) (log : List Entry) (c : Whole) (step : IsInStep s log c) 
             (all_live s (log ++ In e seat ∷ (Done (tick_step start)).out.entries) (Done (tick_step start)).whole a.after.sound.between a.calm me
             (release_step (tick_step start)).worker (there_now a)) unbegun
 
-        by_run : (v : ℕ) (d o : Id) → Among (letter (TheWorker me) (TheWorker v) (Hold d o)) (release_step (tick_step start)).there.out.letters →
-            is_free x.run ≡ true → (r : Option Run) → x.run ≡ r → ⊥
+        by_run : (v : ℕ) (d o : Id) → Among (envelope (TheWorker me) (TheWorker v) (Hold d o)) (release_step (tick_step start)).there.out.envelopes →
+            is_free x.run ≡ true → (r : Option Execution) → x.run ≡ r → ⊥
         by_run v d o i f None is = says_none (tick_step start) (P.idle_tick ⊥ (Unit {0}) me tt start is (start_speaks ⊥ (Unit {0}))) v d o i
         by_run v d o i f (Some r) is = over_said r is (ap is_free (sym is) ∙ f) v d o i
 
     -- ---- a claim
 
     pub claim_goes : (j : ℕ) (a : After e (Done (claim_step start j))) → ToMe → ((n : ℕ) → e ≡ Deliver n → ⊥) → Goes e (Done (claim_step start j)) a
-    claim_goes j a to_me no_letter =
-        let g : Here = claim_step start j in
+    claim_goes j a to_me no_envelope =
+        let g : WorkerContext = claim_step start j in
         V.goes_on s log c step replies k seat e jobs made delivered me x at live node home g a to_me
         (λ r is. subst (λ o. RunsAs g r is (claim_by start j o)) (sym is)
         (H.still_holds _ _ _ _ _ _ _ _ _ _ start r (record r { phase = Out j }) is refl refl refl refl
         (V.start_runs s log c step replies k seat e jobs made delivered me x at live node home g r is)))
         (λ is. subst (λ o. IdlesAs g (claim_by start j o)) (sym is) (V.start_idles s log c step replies k seat e jobs made delivered me x at live node home g is))
-        (λ run i l there n is ack. no_letter n is) (by_run (Unit {0}) x.run)
+        (λ run i l there n is ack. no_envelope n is) (by_run (Unit {0}) x.run)
         (λ u v d spec f o part i pushed unbegun. says_none g (by_run ⊥ x.run) v f o i)
       where
-        by_run : (X : Type 0) (r : Option Run) → Speaks X (Unit {0}) me (claim_by start j r)
+        by_run : (X : Type 0) (r : Option Execution) → Speaks X (Unit {0}) me (claim_by start j r)
         by_run X None = start_speaks X (Unit {0})
         by_run X (Some r) = P.quietly X (Unit {0}) me start (with_phase start r (Out j)) refl refl (start_speaks X (Unit {0}))
 
     -- ---- a commit
 
-    module _ (d : Outcomes) (j : ℕ) (r : Run) (is : x.run ≡ Some r) (out : r.phase ≡ Out j) where
-      abbrev g : Here
+    module _ (d : Outcomes) (j : ℕ) (r : Execution) (is : x.run ≡ Some r) (out : r.phase ≡ Out j) where
+      abbrev g : WorkerContext
       g = commit_step start d
 
       abbrev later : List Entry
@@ -229,11 +229,11 @@ module _ (s : Setting) (log : List Entry) (c : Whole) (step : IsInStep s log c) 
       holder_born f z (InBirth part born i) = (part, born)
       holder_born f z (InContents part number cs born ended i) = (part, born)
 
-      young : (i v : ℕ) (f o : Id) → item_at (c.network ++ []) i ≡ Some (letter (TheWorker me) (TheWorker v) (Hold f o)) → f.owner ≡ me → f.serial < length x.objects + 1
+      young : (i v : ℕ) (f o : Id) → item_at (c.network ++ []) i ≡ Some (envelope (TheWorker me) (TheWorker v) (Hold f o)) → f.owner ≡ me → f.serial < length x.objects + 1
       young i v f o said own =
-          let there : Among (letter (TheWorker me) (TheWorker v) (Hold f o)) c.network = among_at c.network i (letter (TheWorker me) (TheWorker v) (Hold f o))
+          let there : Among (envelope (TheWorker me) (TheWorker v) (Hold f o)) c.network = among_at c.network i (envelope (TheWorker me) (TheWorker v) (Hold f o))
           (ap (λ ls. item_at ls i) (sym (append-nil c.network)) ∙ said) in
-          let true_it : HasId log f o = all_among (Says (past log b.asked)) c.network (letter (TheWorker me) (TheWorker v) (Hold f o)) b.knows.told there in
+          let true_it : HasId log f o = all_among (Says (past log b.asked)) c.network (envelope (TheWorker me) (TheWorker v) (Hold f o)) b.knows.told there in
           let born = holder_born f o true_it in
           let below = sane.serials f born in
           let same : next_serial f.owner (births log) ≡ length x.objects + 1 = ap (λ w. next_serial w (births log)) own ∙ knows.serial in
@@ -252,7 +252,7 @@ module _ (s : Setting) (log : List Entry) (c : Whole) (step : IsInStep s log c) 
           same_birth spec r.spec (sym says.born ∙ knows_run.spec)
 
       unsaid : same_attempt r.attempt main_attempt ≡ false → (f : Id) → IsPartOfTask r.attempt r.spec f → (o : Id) (i v : ℕ) → old.place < i →
-          item_at (c.network ++ []) i ≡ Some (letter (TheWorker me) (TheWorker v) (Hold f o)) → ⊥
+          item_at (c.network ++ []) i ≡ Some (envelope (TheWorker me) (TheWorker v) (Hold f o)) → ⊥
       unsaid other f part o i v far said =
           let q = old.pushed other in
           let same : q.0 ≡ r.spec = pushed_spec old.place r.attempt.object.owner q.0 q.1 in
@@ -281,7 +281,7 @@ module _ (s : Setting) (log : List Entry) (c : Whole) (step : IsInStep s log c) 
           r.spec spec_born apart_from start
       started = record {
         holds = V.start_runs s log c step replies k seat e jobs made delivered me x at live node home g r is;
-        going = λ run i. subst (λ (y : Run). y.is_over ≡ false) (some_run r run (sym is ∙ i)) going_on;
+        going = λ run i. subst (λ (y : Execution). y.is_over ≡ false) (some_run r run (sym is ∙ i)) going_on;
         room = let next = goes.next in omega (arith, next);
         young = young;
         unsaid = unsaid;
@@ -302,55 +302,55 @@ module _ (s : Setting) (log : List Entry) (c : Whole) (step : IsInStep s log c) 
       says_no_push : Speaks (Unit {0}) ⊥ me (release_step g)
       says_no_push = release_step-kept (Speaks (Unit {0}) ⊥ me) (speaks_kept (Unit {0}) ⊥ me) g (P.commit_speaks (Unit {0}) ⊥ me tt start d (start_speaks (Unit {0}) ⊥))
 
-      begun_here : After e (Done g) → (u : ℕ) (q : Attempt) (spec : Birth) → Among (push_by u me q spec) (c.network ++ (release_step g).there.out.letters) →
+      begun_here : After e (Done g) → (u : ℕ) (q : Attempt) (spec : Birth) → Among (push_by u me q spec) (c.network ++ (release_step g).there.out.envelopes) →
           has_begun q (release_step g).worker.began ≡ false → ⊥
-      begun_here a u q spec i unbegun = elim (among-append_cases c.network (release_step g).there.out.letters (push_by u me q spec) i) [
+      begun_here a u q spec i unbegun = elim (among-append_cases c.network (release_step g).there.out.envelopes (push_by u me q spec) i) [
         | inl was ↦ not_over (ap is_free (sym is) ∙ pushes_find_free c step.leases (suc was.0) me (TheWorker u) q spec x was.1 at live
             (ap (λ bs. has_begun q bs) (sym (began_so a)) ∙ unbegun))
         | inr new ↦ (says_no_push.said me (Push q spec)
-            (subst (λ w. Among (push_by w me q spec) (release_step g).there.out.letters) (says_no_push.own u (push_by u me q spec) new refl) new)).1
+            (subst (λ w. Among (push_by w me q spec) (release_step g).there.out.envelopes) (says_no_push.own u (push_by u me q spec) new refl) new)).1
       ]
 
-    pub commit_goes : (d : Outcomes) (j : ℕ) (r : Run) (is : x.run ≡ Some r) (out : r.phase ≡ Out j) (a : After e (Done (commit_step start d))) → ToMe →
+    pub commit_goes : (d : Outcomes) (j : ℕ) (r : Execution) (is : x.run ≡ Some r) (out : r.phase ≡ Out j) (a : After e (Done (commit_step start d))) → ToMe →
         ((n : ℕ) → e ≡ Deliver n → ⊥) → Goes e (Done (commit_step start d)) a
-    commit_goes d j r is out a to_me no_letter =
+    commit_goes d j r is out a to_me no_envelope =
         V.goes_on s log c step replies k seat e jobs made delivered me x at live node home (commit_step start d) a to_me
-        (λ q f. held d j q f (ap (λ (y : Run). y.phase) (some_run q r (sym f ∙ is)) ∙ out) a) (λ none. absurd (nobody (sym none ∙ is)))
-        (λ run i l there n it ack. no_letter n it)
+        (λ q f. held d j q f (ap (λ (y : Execution). y.phase) (some_run q r (sym f ∙ is)) ∙ out) a) (λ none. absurd (nobody (sym none ∙ is)))
+        (λ run i l there n it ack. no_envelope n it)
         (P.commit_speaks (Unit {0}) (Unit {0}) me tt start d (start_speaks (Unit {0}) (Unit {0})))
         (λ u v q spec f o part i pushed unbegun. begun_here d j r is out a u q spec pushed unbegun)
       where
-        nobody : ◌≡◌ {A = Option Run} None (Some r) → ⊥
+        nobody : ◌≡◌ {A = Option Execution} None (Some r) → ⊥
         nobody f = cc
 
-    -- ---- a letter that is no Push
+    -- ---- a envelope that is no Push
 
-    module _ (i : ℕ) (from : Party) (l : Message) (is_it : e ≡ Deliver i) (sent : item_at c.network i ≡ Some (letter from (TheWorker me) l)) where
+    module _ (i : ℕ) (from : Endpoint) (l : Message) (is_it : e ≡ Deliver i) (sent : item_at c.network i ≡ Some (envelope from (TheWorker me) l)) where
       number_is : (n : ℕ) → e ≡ Deliver n → i ≡ n
       number_is n is = let f : Deliver i ≡ Deliver n = sym is_it ∙ is in cc
 
-      same_receiver : (v w : ℕ) → ◌≡◌ {A = Party} (TheWorker v) (TheWorker w) → w ≡ v
+      same_receiver : (v w : ℕ) → ◌≡◌ {A = Endpoint} (TheWorker v) (TheWorker w) → w ≡ v
       same_receiver v w f = cc
 
-      same_letter : (p q : Letter) → ◌≡◌ {A = Option Letter} (Some p) (Some q) → p ≡ q
-      same_letter p q f = cc
+      same_envelope : (p q : Envelope) → ◌≡◌ {A = Option Envelope} (Some p) (Some q) → p ≡ q
+      same_envelope p q f = cc
 
       here_alone : ToMe
-      here_alone n w party says is at_n =
-          let f : letter from (TheWorker me) l ≡ letter party (TheWorker w) says = same_letter _ _ (sym sent ∙ subst (λ q. item_at c.network q ≡ Some (letter party (TheWorker
+      here_alone n w endpoint says is at_n =
+          let f : envelope from (TheWorker me) l ≡ envelope endpoint (TheWorker w) says = same_envelope _ _ (sym sent ∙ subst (λ q. item_at c.network q ≡ Some (envelope endpoint (TheWorker
           w) says)) (sym (number_is n is)) at_n) in
-          same_receiver me w (ap (λ (z : Letter). z.receiver) f)
+          same_receiver me w (ap (λ (z : Envelope). z.receiver) f)
 
       -- an acknowledgement that comes is that message
       message_is : (j : Holding) (n : ℕ) → e ≡ Deliver n → item_at c.network n ≡ Some (ack_of me j) → l ≡ HoldAck j.holder j.object
       message_is j n is ack =
-          let f : letter from (TheWorker me) l ≡ ack_of me j = same_letter _ _ (sym sent ∙ subst (λ q. item_at c.network q ≡ Some (ack_of me j)) (sym (number_is n is)) ack) in
-          ap (λ (z : Letter). z.message) f
+          let f : envelope from (TheWorker me) l ≡ ack_of me j = same_envelope _ _ (sym sent ∙ subst (λ q. item_at c.network q ≡ Some (ack_of me j)) (sym (number_is n is)) ack) in
+          ap (λ (z : Envelope). z.message) f
 
-      no_ack : (g : Here) → is_ack l ≡ false → Unheard g
+      no_ack : (g : WorkerContext) → is_ack l ≡ false → Unheard g
       no_ack g plain run r j there n is ack = both_ways (is_ack l) plain (ap is_ack (message_is j n is ack))
 
-      pub plainly : (g : Here) → is_ack l ≡ false → ((X : Type 0) (Q : Here → Type 0) → IsKeptWhere X (Unit {0}) Q → Q start → Q g) → (a : After e (Done g)) → Goes e (Done g) a
+      pub plainly : (g : WorkerContext) → is_ack l ≡ false → ((X : Type 0) (Q : WorkerContext → Type 0) → IsKeptWhere X (Unit {0}) Q → Q start → Q g) → (a : After e (Done g)) → Goes e (Done g) a
       plainly g plain kept a = plain_goes g kept a here_alone (no_ack g plain)
 
       pub acked : (d o : Id) → l ≡ HoldAck d o → (a : After e (Done (hold_ack_reached start d o))) → Goes e (Done (hold_ack_reached start d o)) a
@@ -369,8 +369,8 @@ module _ (s : Setting) (log : List Entry) (c : Whole) (step : IsInStep s log c) 
               (subst (λ h. NotWaiting j (hold_ack_reached start h.holder h.object)) (sym (same_parts j (sym says ∙ message_is j n is ack))) (acked_waits j start)) run r there
 
       -- an end that is told
-      finish_kept : {X Y : Type 0} (Q : Here → Type 0) → IsKeptWhere X Y Q → ((h : Here) (ys : List Object) → Q h → Q (with_worker h (record h.worker { objects = ys }))) →
-          ((h : Here) (y : Entry) → Q h → Q (logs h y)) → (w : ℕ) (q : Attempt) (n : ℕ) (rs : List EndedResult) → Q start → Q (finished_reached start w q n rs)
+      finish_kept : {X Y : Type 0} (Q : WorkerContext → Type 0) → IsKeptWhere X Y Q → ((h : WorkerContext) (ys : List Object) → Q h → Q (with_worker h (record h.worker { objects = ys }))) →
+          ((h : WorkerContext) (y : Entry) → Q h → Q (logs h y)) → (w : ℕ) (q : Attempt) (n : ℕ) (rs : List EndedResult) → Q start → Q (finished_reached start w q n rs)
       finish_kept Q kept alike logged w q n rs p =
           R.finished_reached-kept Q kept (λ _ _. Unit {0}) (λ h a task m ts u f t y z.
           logged (settles (with_task_of h a.object (rests task)) a.object a.number m (results_of task.spec) ts) (Accepted a)
@@ -379,7 +379,7 @@ module _ (s : Setting) (log : List Entry) (c : Whole) (step : IsInStep s log c) 
       pub finished : is_ack l ≡ false → (w : ℕ) (q : Attempt) (n : ℕ) (rs : List EndedResult) → (a : After e (Done (finished_reached start w q n rs))) →
           Goes e (Done (finished_reached start w q n rs)) a
       finished plain w q n rs a =
-          let g : Here = finished_reached start w q n rs in
+          let g : WorkerContext = finished_reached start w q n rs in
           V.goes_on s log c step replies k seat e jobs made delivered me x at live node home g a here_alone
           (λ r is. let p = V.start_runs s log c step replies k seat e jobs made delivered me x at live node home g r is in
           finish_kept (RunsAs g r is) (H.holds_kept _ _ _ _ _ _ _ _ _ _)
@@ -407,8 +407,8 @@ module _ (s : Setting) (log : List Entry) (c : Whole) (step : IsInStep s log c) 
         where
           sender_is : (j : Holding) (m : ℕ) → e ≡ Deliver m → item_at c.network m ≡ Some (ack_of me j) → TheNode n ≡ TheWorker j.object.owner
           sender_is j m is ack =
-              let f : letter from (TheWorker me) l ≡ ack_of me j = same_letter _ _ (sym sent ∙ subst (λ q. item_at c.network q ≡ Some (ack_of me j)) (sym (number_is m is)) ack) in
-              sym by_node ∙ ap (λ (z : Letter). z.sender) f
+              let f : envelope from (TheWorker me) l ≡ ack_of me j = same_envelope _ _ (sym sent ∙ subst (λ q. item_at c.network q ≡ Some (ack_of me j)) (sym (number_is m is)) ack) in
+              sym by_node ∙ ap (λ (z : Envelope). z.sender) f
 
           of_worker : (v : ℕ) → TheNode n ≡ TheWorker v → ⊥
           of_worker v f = absurd (cc)
@@ -416,7 +416,7 @@ module _ (s : Setting) (log : List Entry) (c : Whole) (step : IsInStep s log c) 
     -- ---- a Push that begins its attempt
 
     module _ (i u : ℕ) (q : Attempt) (spec : Birth) (is_it : e ≡ Deliver i) (sent : item_at c.network i ≡ Some (push_by u me q spec)) where
-      abbrev begun_so : Here
+      abbrev begun_so : WorkerContext
       begun_so = begins_run start q spec
 
       abbrev low : ℕ
@@ -428,7 +428,7 @@ module _ (s : Setting) (log : List Entry) (c : Whole) (step : IsInStep s log c) 
       from_owner : item_at c.network i ≡ Some (push_by q.object.owner me q spec)
       from_owner = subst (λ v. item_at c.network i ≡ Some (push_by v me q spec)) (k.pushes u me q spec (among_at c.network i (push_by u me q spec) sent)) sent
 
-      some_number : (n : ℕ) (l : Letter) → item_at c.network n ≡ Some l → 0 < n
+      some_number : (n : ℕ) (l : Envelope) → item_at c.network n ≡ Some l → 0 < n
       some_number zero l f = absurd (cc)
       some_number (suc n) l f = omega arith
 
@@ -436,14 +436,14 @@ module _ (s : Setting) (log : List Entry) (c : Whole) (step : IsInStep s log c) 
       first = first_behind (is_push_of me q) c.network 0 i (push_by q.object.owner me q spec) from_owner (is_push me q spec)
           (some_number i (push_by q.object.owner me q spec) from_owner)
 
-      abbrev BeginsAs : Here → Type 0
+      abbrev BeginsAs : WorkerContext → Type 0
       BeginsAs h = H.Holds log_then c.network (accepted_events log) (V.known s log c step replies k seat) me first.number (x.began ++ q ∷ []) q low (Unit {0}) h
 
       begins : BeginsAs begun_so
       begins = record {
         who = refl;
         kept_began = refl;
-        same = λ run f. let same : ran ≡ run = some_run ran run f in (ap (λ (z : Run). z.attempt) (sym same), ap (λ (z : Run). z.base.serial) (sym same), tt);
+        same = λ run f. let same : ran ≡ run = some_run ran run f in (ap (λ (z : Execution). z.attempt) (sym same), ap (λ (z : Execution). z.base.serial) (sym same), tt);
         run = λ run f. subst (RunHolds log_then (c.network ++ []) (accepted_events log) me first.number) (some_run ran run f) (record {
           over = λ f. absurd (not_yet f);
           each = λ j there. absurd (among-nothing j there);
@@ -452,7 +452,7 @@ module _ (s : Setting) (log : List Entry) (c : Whole) (step : IsInStep s log c) 
         said = λ v f o j. absurd (among-nothing _ j);
       }
         where
-          ran : Run
+          ran : Execution
           ran = new_run q spec (object_id me low)
 
           not_yet : false ≡ true → ⊥
@@ -507,7 +507,7 @@ module _ (s : Setting) (log : List Entry) (c : Whole) (step : IsInStep s log c) 
             says = λ v w d spec f o part j pushed. absurd (says_none begun_so (speaks_then ⊥) w f o j);
           })
         where
-          my_run : (run : Run) → (release_step begun_so).worker.run ≡ Some run → (run.attempt ≡ q) × (run.base.serial ≡ low) × (Unit {0}) →
+          my_run : (run : Execution) → (release_step begun_so).worker.run ≡ Some run → (run.attempt ≡ q) × (run.base.serial ≡ low) × (Unit {0}) →
               RunKeeps log_then (Done begun_so).whole.network (accepted_events log_then) me (release_step begun_so).worker run
           my_run run f same =
               E.keeps_on s log c step replies k e seat (Done begun_so) a.after a.asks a.calm a.accepted a.network a.sent me (release_step begun_so).worker run first.number

@@ -1,4 +1,4 @@
--- What a calm run tells of Pushes and Holds: an attempt that was pushed is the first of its object, and there is a first letter of a kind.
+-- What a calm run tells of Pushes and Holds: an attempt that was pushed is the first of its object, and there is a first envelope of a kind.
 use Rattle.std.proofs.Common.{ap, arith, inl, inr, length, List, None, Option, refl, Some, subst, suc, sym, zero, ℕ, ◌++◌, ◌+◌, ◌<◌, ◌∙◌, ◌∷◌, ◌≡◌}
 use Rattle.meaning.specs.Births.{birth_at, same_id}
 use Rattle.meaning.specs.Meaning.{replay, run_birth}
@@ -17,13 +17,13 @@ use Rattle.std.specs.Prelude.{Bool, true, false, ◌==◌, ◌&&◌}
 use Rattle.std.proofs.lemmas.Bool.{and_parts, both_ways, eq-eqb, eqb-true}
 use Rattle.meaning.proofs.BirthLaws.{at_test, same_id-refl, same_id-true}
 use Rattle.event_log.proofs.WordLaws.{same_attempt-refl, same_attempt-true}
-use Rattle.protocol.specs.Messages.{Ask, At, Back, CopyOf, Elsewhere, Failed, Fetch, Finished, FinishedAck, Give, Gone, Hold, HoldAck, Letter, letter, Message}
-use Rattle.protocol.specs.Messages.{Missing, Party, Push, TheNode, TheWorker, Unhold, Wait, Where}
+use Rattle.protocol.specs.Messages.{Ask, At, Back, CopyOf, Elsewhere, Failed, Fetch, Finished, FinishedAck, Give, Gone, Hold, HoldAck, Envelope, envelope, Message}
+use Rattle.protocol.specs.Messages.{Missing, Endpoint, Push, TheNode, TheWorker, Unhold, Wait, Where}
 use Rattle.protocol.specs.Numbered.{item_at}
 use Rattle.protocol.specs.Sets.{object_id}
-use Rattle.protocol.specs.Tables.{AskedAt, AtRest, Beside, ByTask, Maker, Object, OwnTask, Progress, RunsOn, WasPut, Worker, task_in, task_of}
-use Rattle.protocol.specs.Whole.{Whole, worker_at}
-use Rattle.owed_asks.specs.of_protocol_legal.Knows.{KnowsMaker, KnowsObject, KnowsProgress, KnowsTask}
+use Rattle.protocol.specs.Tables.{AskedAt, AtRest, Beside, ByTask, ObjectSource, Object, OwnTask, Progress, RunsOn, WasPut, Worker, task_in, task_of}
+use Rattle.protocol.specs.Cluster.{ClusterState, worker_at}
+use Rattle.owed_asks.specs.of_protocol_legal.Knows.{KnowsSource, KnowsObject, KnowsProgress, KnowsTask}
 use Rattle.owed_asks.specs.of_protocol_legal.Past.{past}
 use Rattle.owed_asks.specs.of_protocol_legal.Whole.{Between}
 use Rattle.protocol_owed.specs.Seen.{IsCalm}
@@ -95,7 +95,7 @@ module _ {X : Type 0} (test : X → Bool) (xs : List X) (from last : ℕ) (x : X
 
 -- ---- a Push, a Hold
 
-abbrev is_from : ℕ → Party → Bool
+abbrev is_from : ℕ → Endpoint → Bool
 is_from v (TheWorker w) = w == v
 is_from v (TheNode n) = false
 
@@ -104,10 +104,10 @@ pushes_it a (Push b spec) = same_attempt b a
 pushes_it a _ = false
 
 -- it pushes the attempt
-abbrev pub is_push_of : ℕ → Attempt → Letter → Bool
+abbrev pub is_push_of : ℕ → Attempt → Envelope → Bool
 is_push_of w a l = (is_from a.object.owner l.sender && is_from w l.receiver) && pushes_it a l.message
 
-from_is : (v : ℕ) (q : Party) → is_from v q ≡ true → q ≡ TheWorker v
+from_is : (v : ℕ) (q : Endpoint) → is_from v q ≡ true → q ≡ TheWorker v
 from_is v (TheWorker w) e = ap TheWorker (eqb-true w v e)
 from_is v (TheNode n) e = absurd (cc)
 
@@ -131,17 +131,17 @@ pushes_is a (Hold h o) e = absurd (cc)
 pushes_is a (HoldAck h o) e = absurd (cc)
 pushes_is a (Unhold h o why) e = absurd (cc)
 
-letter_is : (l : Letter) (v w : ℕ) (m : Message) → l.sender ≡ TheWorker v → l.receiver ≡ TheWorker w → l.message ≡ m → l ≡ letter (TheWorker v) (TheWorker w) m
-letter_is l v w m e f g = ap (λ q. letter q l.receiver l.message) e ∙ ap (λ q. letter (TheWorker v) q l.message) f ∙ ap (letter (TheWorker v) (TheWorker w)) g
+envelope_is : (l : Envelope) (v w : ℕ) (m : Message) → l.sender ≡ TheWorker v → l.receiver ≡ TheWorker w → l.message ≡ m → l ≡ envelope (TheWorker v) (TheWorker w) m
+envelope_is l v w m e f g = ap (λ q. envelope q l.receiver l.message) e ∙ ap (λ q. envelope (TheWorker v) q l.message) f ∙ ap (envelope (TheWorker v) (TheWorker w)) g
 
-pub push_is : (w : ℕ) (a : Attempt) (l : Letter) → is_push_of w a l ≡ true → (spec : Birth) × (l ≡ letter (TheWorker a.object.owner) (TheWorker w) (Push a spec))
+pub push_is : (w : ℕ) (a : Attempt) (l : Envelope) → is_push_of w a l ≡ true → (spec : Birth) × (l ≡ envelope (TheWorker a.object.owner) (TheWorker w) (Push a spec))
 push_is w a l e =
     let both = and_parts (is_from a.object.owner l.sender && is_from w l.receiver) (pushes_it a l.message) e in
     let ends = and_parts (is_from a.object.owner l.sender) (is_from w l.receiver) both.0 in
     let says = pushes_is a l.message both.1 in
-    (says.0, letter_is l a.object.owner w (Push a says.0) (from_is a.object.owner l.sender ends.0) (from_is w l.receiver ends.1) says.1)
+    (says.0, envelope_is l a.object.owner w (Push a says.0) (from_is a.object.owner l.sender ends.0) (from_is w l.receiver ends.1) says.1)
 
-pub is_push : (w : ℕ) (a : Attempt) (spec : Birth) → is_push_of w a (letter (TheWorker a.object.owner) (TheWorker w) (Push a spec)) ≡ true
+pub is_push : (w : ℕ) (a : Attempt) (spec : Birth) → is_push_of w a (envelope (TheWorker a.object.owner) (TheWorker w) (Push a spec)) ≡ true
 is_push w a spec =
     ap (λ t. (t && (w == w)) && same_attempt a a) (eq-eqb a.object.owner a.object.owner refl) ∙ ap (λ t. (true && t) && same_attempt a a) (eq-eqb w w refl) ∙
     same_attempt-refl a
@@ -151,7 +151,7 @@ holds_it e o (Hold f q) = same_id f e && same_id q o
 holds_it e o _ = false
 
 -- it is that Hold
-abbrev pub is_hold_of : ℕ → Id → Id → Letter → Bool
+abbrev pub is_hold_of : ℕ → Id → Id → Envelope → Bool
 is_hold_of w e o l = (is_from w l.sender && is_from o.owner l.receiver) && holds_it e o l.message
 
 holds_is : (e o : Id) (m : Message) → holds_it e o m ≡ true → m ≡ Hold e o
@@ -176,20 +176,20 @@ holds_is e o (Missing q number n) t = absurd (cc)
 holds_is e o (HoldAck h q) t = absurd (cc)
 holds_is e o (Unhold h q why) t = absurd (cc)
 
-pub hold_is : (w : ℕ) (e o : Id) (l : Letter) → is_hold_of w e o l ≡ true → l ≡ letter (TheWorker w) (TheWorker o.owner) (Hold e o)
+pub hold_is : (w : ℕ) (e o : Id) (l : Envelope) → is_hold_of w e o l ≡ true → l ≡ envelope (TheWorker w) (TheWorker o.owner) (Hold e o)
 hold_is w e o l t =
     let both = and_parts (is_from w l.sender && is_from o.owner l.receiver) (holds_it e o l.message) t in
     let ends = and_parts (is_from w l.sender) (is_from o.owner l.receiver) both.0 in
-    letter_is l w o.owner (Hold e o) (from_is w l.sender ends.0) (from_is o.owner l.receiver ends.1) (holds_is e o l.message both.1)
+    envelope_is l w o.owner (Hold e o) (from_is w l.sender ends.0) (from_is o.owner l.receiver ends.1) (holds_is e o l.message both.1)
 
-pub is_hold : (w : ℕ) (e o : Id) → is_hold_of w e o (letter (TheWorker w) (TheWorker o.owner) (Hold e o)) ≡ true
+pub is_hold : (w : ℕ) (e o : Id) → is_hold_of w e o (envelope (TheWorker w) (TheWorker o.owner) (Hold e o)) ≡ true
 is_hold w e o =
     ap (λ t. (t && (o.owner == o.owner)) && (same_id e e && same_id o o)) (eq-eqb w w refl) ∙
     ap (λ t. (true && t) && (same_id e e && same_id o o)) (eq-eqb o.owner o.owner refl) ∙ ap (λ t. t && same_id o o) (same_id-refl e) ∙ same_id-refl o
 
 -- ---- an attempt that was pushed is the first
 
-module _ (s : Setting) (log : List Entry) (c : Whole) (b : Between s log c) (asks : KeepsAsks c) (calm : IsCalm log) where
+module _ (s : Setting) (log : List Entry) (c : ClusterState) (b : Between s log c) (asks : KeepsAsks c) (calm : IsCalm log) where
   same_id_of : (o : Id) → object_id o.owner o.serial ≡ o
   same_id_of o = refl
 
@@ -211,14 +211,14 @@ module _ (s : Setting) (log : List Entry) (c : Whole) (b : Between s log c) (ask
       by_object : (x : Worker) → worker_at c a.object.owner ≡ Some x → (p : Option Object) → item_at x.objects a.object.serial ≡ p → (task : OwnTask) →
           task_of p ≡ Some task → number ≡ 0
       by_object x at None there task e = absurd (cc)
-      by_object x at (Some z) there task e = by_maker z.maker refl e
+      by_object x at (Some z) there task e = by_source z.source refl e
         where
-          by_maker : (m : Maker) → z.maker ≡ m → task_in m ≡ Some task → number ≡ 0
-          by_maker WasPut is f = absurd (cc)
-          by_maker (Beside j) is f = absurd (cc)
-          by_maker (ByTask other) is f =
+          by_source : (m : ObjectSource) → z.source ≡ m → task_in m ≡ Some task → number ≡ 0
+          by_source WasPut is f = absurd (cc)
+          by_source (Beside j) is f = absurd (cc)
+          by_source (ByTask other) is f =
               let k : KnowsObject (past log b.asked) x a.object z = knows_of s log c b calm a.object x z at there in
-              let t : KnowsTask (past log b.asked) a.object x.objects other = (subst (KnowsMaker (past log b.asked) x.node x.objects a.object z) is k.maker).0 in
+              let t : KnowsTask (past log b.asked) a.object x.objects other = (subst (KnowsSource (past log b.asked) x.node x.objects a.object z) is k.source).0 in
               by_progress x z other t other.progress refl
 
       by_task : (x : Worker) → worker_at c a.object.owner ≡ Some x → (p : Option OwnTask) → task_of (item_at x.objects a.object.serial) ≡ p → number ≡ 0

@@ -13,22 +13,22 @@ use Rattle.meaning.proofs.BirthLaws.{at_test}
 use Rattle.meaning.specs.Values.{Birth, Id, Outcome}
 use Rattle.event_log.specs.Breaks.{Among}
 use Rattle.event_log.specs.Entries.{Attempt, Born, Deliver, Ended, Entry, Event, Faulted, Got, main_attempt}
-use Rattle.protocol.specs.Messages.{Ask, At, Back, CopyOf, Elsewhere, Failed, Fetch, Finished, FinishedAck, Give, Gone, Hold, HoldAck, Letter, letter, Message}
-use Rattle.protocol.specs.Messages.{Missing, Party, Push, TheNode, TheWorker, Unhold, Wait, Where}
-use Rattle.protocol.specs.Nodes.{There}
+use Rattle.protocol.specs.Messages.{Ask, At, Back, CopyOf, Elsewhere, Failed, Fetch, Finished, FinishedAck, Give, Gone, Hold, HoldAck, Envelope, envelope, Message}
+use Rattle.protocol.specs.Messages.{Missing, Endpoint, Push, TheNode, TheWorker, Unhold, Wait, Where}
+use Rattle.protocol.specs.Nodes.{NodeContext}
 use Rattle.protocol.specs.Numbered.{item_at}
 use Rattle.protocol.specs.Runs.{asks_for_slot, gives_slot_back, is_heard, leaves, leaves_by, leaves_if_free, tells, tells_stop, with_answer}
 use Rattle.protocol.specs.Sets.{is_empty}
-use Rattle.protocol.specs.Steps.{Here, logs, says, says_to_node, with_phase, with_run, with_there}
-use Rattle.protocol.specs.Tables.{HasEnded, HasFaulted, Holding, Out, Phase, Ready, Run, Waits, Worker, has_stopped, knows_dead, owner_of}
-use Rattle.protocol_owed.proofs.Letters.{among-append_cases, among-push_cases}
+use Rattle.protocol.specs.Steps.{WorkerContext, logs, says, says_to_node, with_phase, with_run, with_there}
+use Rattle.protocol.specs.Tables.{HasEnded, HasFaulted, Holding, Out, Phase, Ready, Execution, Waits, Worker, has_stopped, knows_dead, owner_of}
+use Rattle.protocol_owed.proofs.Envelopes.{among-append_cases, among-push_cases}
 use Rattle.protocol_owed.proofs.NodeMoves.{IsKeptThere, asks_slot-kept, frees-kept}
 use Rattle.protocol_owed.proofs.Nodes.{there_more}
 use Rattle.smallest_steps.proofs.Untouched.{tells_stop-worker}
 use Rattle.owed_replies.proofs.Moves.{IsKept, IsSaid}
 use Rattle.owed_replies.proofs.Paying.{kept_among}
 
--- ---- numbered letters
+-- ---- numbered envelopes
 
 -- an item of two lists is of the first, or stands behind that
 pub item_cases : {X : Type 0} (xs ys : List X) (n : ℕ) (x : X) → item_at (xs ++ ys) n ≡ Some x → (item_at xs n ≡ Some x) ⊎ ((length xs < n) × Among x ys)
@@ -58,11 +58,11 @@ item_last {X} xs x = let f : ◌≡◌ {A = ℕ} (length xs + 1) (suc (length xs
     by_place [] = refl
     by_place (z ∷ zs) = by_place zs
 
-abbrev pub hold_of : ℕ → Holding → Letter
-hold_of w k = letter (TheWorker w) (TheWorker k.object.owner) (Hold k.holder k.object)
+abbrev pub hold_of : ℕ → Holding → Envelope
+hold_of w k = envelope (TheWorker w) (TheWorker k.object.owner) (Hold k.holder k.object)
 
-abbrev pub ack_of : ℕ → Holding → Letter
-ack_of w k = letter (TheWorker k.object.owner) (TheWorker w) (HoldAck k.holder k.object)
+abbrev pub ack_of : ℕ → Holding → Envelope
+ack_of w k = envelope (TheWorker k.object.owner) (TheWorker w) (HoldAck k.holder k.object)
 
 -- the object is a result of the attempt's task
 abbrev pub IsResultOf : List Entry → Attempt → Id → Type 0
@@ -81,18 +81,18 @@ IsOfRun log a e =
     IsResultOf log a e ⊎ ((o : Id) × (b : Birth) × Among (Born o a b) log × (is_made_by (record { object = o; birth = b }) e ≡ true))
 
 -- a Hold that waits: it is the attempt's; it was sent behind that place; and what acknowledges it was delivered before it was sent, if ever
-pub record IsHeld (log : List Entry) (sent : List Letter) (acks : List Event) (w : ℕ) (a : Attempt) (p : ℕ) (k : Holding) : Type 0 where
+pub record IsHeld (log : List Entry) (sent : List Envelope) (acks : List Event) (w : ℕ) (a : Attempt) (p : ℕ) (k : Holding) : Type 0 where
   pub entry : IsOfRun log a k.holder
   pub sends : (i : ℕ) × (p < i) × (item_at sent i ≡ Some (hold_of w k))
   pub unheard : (n i : ℕ) → Among (Deliver n) acks → item_at sent n ≡ Some (ack_of w k) → p < i → item_at sent i ≡ Some (hold_of w k) → n < i
 
 -- the Holds of a worker's attempt
-pub record RunHolds (log : List Entry) (sent : List Letter) (acks : List Event) (w p : ℕ) (run : Run) : Type 0 where
+pub record RunHolds (log : List Entry) (sent : List Envelope) (acks : List Event) (w p : ℕ) (run : Execution) : Type 0 where
   pub over : run.is_over ≡ true → run.holds ≡ []
   pub each : (k : Holding) → Among k run.holds → IsHolder log w run.attempt run.base.serial k.holder
   pub held : same_attempt run.attempt main_attempt ≡ false → (k : Holding) → Among k run.holds → IsHeld log sent acks w run.attempt p k
 
-pub held_more : (log : List Entry) (sent ls : List Letter) (acks : List Event) (w : ℕ) (a : Attempt) (p : ℕ) (k : Holding) →
+pub held_more : (log : List Entry) (sent ls : List Envelope) (acks : List Event) (w : ℕ) (a : Attempt) (p : ℕ) (k : Holding) →
     ((n : ℕ) → Among (Deliver n) acks → n < length sent + 1) → IsHeld log sent acks w a p k → IsHeld log (sent ++ ls) acks w a p k
 held_more log sent ls acks w a p k known h = record {
   entry = h.entry;
@@ -106,7 +106,7 @@ held_more log sent ls acks w a p k known h = record {
   ];
 }
 
-pub run_more : (log : List Entry) (sent ls : List Letter) (acks : List Event) (w p : ℕ) (run : Run) → ((n : ℕ) → Among (Deliver n) acks → n < length sent + 1) →
+pub run_more : (log : List Entry) (sent ls : List Envelope) (acks : List Event) (w p : ℕ) (run : Execution) → ((n : ℕ) → Among (Deliver n) acks → n < length sent + 1) →
     RunHolds log sent acks w p run → RunHolds log (sent ++ ls) acks w p run
 run_more log sent ls acks w p run known r = record {
   over = r.over;
@@ -127,69 +127,69 @@ empty_list (k ∷ ks) e = absurd (cc)
 none_filtered : (test : Holding → Bool) (ks : List Holding) → ks ≡ [] → filter test ks ≡ []
 none_filtered test ks e = ap (filter test) e
 
-module _ (log : List Entry) (net : List Letter) (acks : List Event) (known : (n : ℕ) → Among (Deliver n) acks → n < length net + 1)
+module _ (log : List Entry) (net : List Envelope) (acks : List Event) (known : (n : ℕ) → Among (Deliver n) acks → n < length net + 1)
     (me p : ℕ) (began : List Attempt) (a : Attempt) (base : ℕ) (Present : Type 0) where
-  abbrev pub sent_by : There → List Letter
-  sent_by t = net ++ t.out.letters
+  abbrev pub sent_by : NodeContext → List Envelope
+  sent_by t = net ++ t.out.envelopes
 
-  known_by : (t : There) → (n : ℕ) → Among (Deliver n) acks → n < length (sent_by t) + 1
-  known_by t n i = let f = known n i in let g = length-append net t.out.letters in omega (arith, f, g)
+  known_by : (t : NodeContext) → (n : ℕ) → Among (Deliver n) acks → n < length (sent_by t) + 1
+  known_by t n i = let f = known n i in let g = length-append net t.out.envelopes in omega (arith, f, g)
 
   -- so far
-  pub record Holds (h : Here) : Type 0 where
+  pub record Holds (h : WorkerContext) : Type 0 where
     pub who : h.me ≡ me
     pub kept_began : h.worker.began ≡ began
-    pub same : (run : Run) → h.worker.run ≡ Some run → (run.attempt ≡ a) × (run.base.serial ≡ base) × Present
-    pub run : (run : Run) → h.worker.run ≡ Some run → RunHolds log (sent_by h.there) acks me p run
-    pub said : (v : ℕ) (e o : Id) → Among (letter (TheWorker me) (TheWorker v) (Hold e o)) h.there.out.letters → IsHolder log me a base e × Present
+    pub same : (run : Execution) → h.worker.run ≡ Some run → (run.attempt ≡ a) × (run.base.serial ≡ base) × Present
+    pub run : (run : Execution) → h.worker.run ≡ Some run → RunHolds log (sent_by h.there) acks me p run
+    pub said : (v : ℕ) (e o : Id) → Among (envelope (TheWorker me) (TheWorker v) (Hold e o)) h.there.out.envelopes → IsHolder log me a base e × Present
 
-  same_run : (x y : Run) → ◌≡◌ {A = Option Run} (Some x) (Some y) → x ≡ y
+  same_run : (x y : Execution) → ◌≡◌ {A = Option Execution} (Some x) (Some y) → x ≡ y
   same_run x y e = cc
 
-  longer : (t : There) (ls : List Letter) (run : Run) → RunHolds log (sent_by t) acks me p run → RunHolds log (net ++ (t.out.letters ++ ls)) acks me p run
-  longer t ls run r = subst (λ xs. RunHolds log xs acks me p run) (append_assoc net t.out.letters ls) (run_more log (sent_by t) ls acks me p run (known_by t) r)
+  longer : (t : NodeContext) (ls : List Envelope) (run : Execution) → RunHolds log (sent_by t) acks me p run → RunHolds log (net ++ (t.out.envelopes ++ ls)) acks me p run
+  longer t ls run r = subst (λ xs. RunHolds log xs acks me p run) (append_assoc net t.out.envelopes ls) (run_more log (sent_by t) ls acks me p run (known_by t) r)
 
-  -- a letter that is no Hold to a worker
-  posted : (h : Here) (l : Letter) → ((v : ℕ) (e o : Id) → letter (TheWorker me) (TheWorker v) (Hold e o) ≡ l → IsHolder log me a base e × Present) → Holds h →
-      Holds (record h { there = record h.there { out = record h.there.out { letters = h.there.out.letters ++ l ∷ [] } } })
+  -- a envelope that is no Hold to a worker
+  posted : (h : WorkerContext) (l : Envelope) → ((v : ℕ) (e o : Id) → envelope (TheWorker me) (TheWorker v) (Hold e o) ≡ l → IsHolder log me a base e × Present) → Holds h →
+      Holds (record h { there = record h.there { out = record h.there.out { envelopes = h.there.out.envelopes ++ l ∷ [] } } })
   posted h l now p = record {
     who = p.who;
     kept_began = p.kept_began;
     same = p.same;
     run = λ run e. longer h.there (l ∷ []) run (p.run run e);
-    said = λ v e o i. elim (among-push_cases h.there.out.letters l (letter (TheWorker me) (TheWorker v) (Hold e o)) i) [ inl old ↦ p.said v e o old | inr new ↦ now v e o new ];
+    said = λ v e o i. elim (among-push_cases h.there.out.envelopes l (envelope (TheWorker me) (TheWorker v) (Hold e o)) i) [ inl old ↦ p.said v e o old | inr new ↦ now v e o new ];
   }
 
-  -- of what was said with one more letter
-  pub said_cases : (h : Here) (l : Letter) → ((v : ℕ) (e o : Id) → letter (TheWorker me) (TheWorker v) (Hold e o) ≡ l → IsHolder log me a base e × Present) → Holds h →
-      (v : ℕ) (e o : Id) → Among (letter (TheWorker me) (TheWorker v) (Hold e o)) (h.there.out.letters ++ l ∷ []) → IsHolder log me a base e × Present
+  -- of what was said with one more envelope
+  pub said_cases : (h : WorkerContext) (l : Envelope) → ((v : ℕ) (e o : Id) → envelope (TheWorker me) (TheWorker v) (Hold e o) ≡ l → IsHolder log me a base e × Present) → Holds h →
+      (v : ℕ) (e o : Id) → Among (envelope (TheWorker me) (TheWorker v) (Hold e o)) (h.there.out.envelopes ++ l ∷ []) → IsHolder log me a base e × Present
   said_cases h l now p v e o i =
-      elim (among-push_cases h.there.out.letters l (letter (TheWorker me) (TheWorker v) (Hold e o)) i) [ inl old ↦ p.said v e o old | inr new ↦ now v e o new ]
+      elim (among-push_cases h.there.out.envelopes l (envelope (TheWorker me) (TheWorker v) (Hold e o)) i) [ inl old ↦ p.said v e o old | inr new ↦ now v e o new ]
 
-  other_message : (w v : ℕ) (to : Party) (m : Message) (e o : Id) → is_hold m ≡ false → letter (TheWorker me) (TheWorker v) (Hold e o) ≡ letter (TheWorker w) to m → ⊥
-  other_message w v to m e o plain same = by_message (ap (λ (l : Letter). l.message) same)
+  other_message : (w v : ℕ) (to : Endpoint) (m : Message) (e o : Id) → is_hold m ≡ false → envelope (TheWorker me) (TheWorker v) (Hold e o) ≡ envelope (TheWorker w) to m → ⊥
+  other_message w v to m e o plain same = by_message (ap (λ (l : Envelope). l.message) same)
     where
       by_message : Hold e o ≡ m → ⊥
       by_message f = both_ways (is_hold m) plain (ap is_hold (sym f))
 
-  says_plain : (h : Here) (w : ℕ) (m : Message) → is_hold m ≡ false → Holds h → Holds (says h w m)
-  says_plain h w m plain q = posted h (letter (TheWorker h.me) (TheWorker w) m) (λ v e o same. absurd (other_message h.me v (TheWorker w) m e o plain same)) q
+  says_plain : (h : WorkerContext) (w : ℕ) (m : Message) → is_hold m ≡ false → Holds h → Holds (says h w m)
+  says_plain h w m plain q = posted h (envelope (TheWorker h.me) (TheWorker w) m) (λ v e o same. absurd (other_message h.me v (TheWorker w) m e o plain same)) q
 
-  pub says_to_node_holds : (h : Here) (n : ℕ) (m : Message) → Holds h → Holds (says_to_node h n m)
-  says_to_node_holds h n m q = posted h (letter (TheWorker h.me) (TheNode n) m) (λ v e o same. absurd (to_node v e o same)) q
+  pub says_to_node_holds : (h : WorkerContext) (n : ℕ) (m : Message) → Holds h → Holds (says_to_node h n m)
+  says_to_node_holds h n m q = posted h (envelope (TheWorker h.me) (TheNode n) m) (λ v e o same. absurd (to_node v e o same)) q
     where
-      to_node : (v : ℕ) (e o : Id) → letter (TheWorker me) (TheWorker v) (Hold e o) ≡ letter (TheWorker h.me) (TheNode n) m → ⊥
-      to_node v e o same = let f : TheWorker v ≡ TheNode n = ap (λ (l : Letter). l.receiver) same in absurd (cc)
+      to_node : (v : ℕ) (e o : Id) → envelope (TheWorker me) (TheWorker v) (Hold e o) ≡ envelope (TheWorker h.me) (TheNode n) m → ⊥
+      to_node v e o same = let f : TheWorker v ≡ TheNode n = ap (λ (l : Envelope). l.receiver) same in absurd (cc)
 
-  says_hold : (h : Here) (w : ℕ) (e o : Id) → IsHolder log me a base e × Present → Holds h → Holds (says h w (Hold e o))
-  says_hold h w e o holder q = posted h (letter (TheWorker h.me) (TheWorker w) (Hold e o)) (λ v f g same. (subst (IsHolder log me a base) (is_same v f g same) holder.0, holder.1)) q
+  says_hold : (h : WorkerContext) (w : ℕ) (e o : Id) → IsHolder log me a base e × Present → Holds h → Holds (says h w (Hold e o))
+  says_hold h w e o holder q = posted h (envelope (TheWorker h.me) (TheWorker w) (Hold e o)) (λ v f g same. (subst (IsHolder log me a base) (is_same v f g same) holder.0, holder.1)) q
     where
-      is_same : (v : ℕ) (f g : Id) → letter (TheWorker me) (TheWorker v) (Hold f g) ≡ letter (TheWorker h.me) (TheWorker w) (Hold e o) → e ≡ f
-      is_same v f g same = let i : Hold f g ≡ Hold e o = ap (λ (l : Letter). l.message) same in cc
+      is_same : (v : ℕ) (f g : Id) → envelope (TheWorker me) (TheWorker v) (Hold f g) ≡ envelope (TheWorker h.me) (TheWorker w) (Hold e o) → e ≡ f
+      is_same v f g same = let i : Hold f g ≡ Hold e o = ap (λ (l : Envelope). l.message) same in cc
 
-  says_holds : (h : Here) (w : ℕ) (m : Message) → IsSaid (Unit {0}) (Unit {0}) h w m → Holds h → Holds (says h w m)
+  says_holds : (h : WorkerContext) (w : ℕ) (m : Message) → IsSaid (Unit {0}) (Unit {0}) h w m → Holds h → Holds (says h w m)
   says_holds h w (Hold e o) s q =
-      let run : Run = s.1.run in
+      let run : Execution = s.1.run in
       let is = q.same run s.1.at in
       let holder : IsHolder log me run.attempt run.base.serial e = (q.run run s.1.at).each _ s.1.listed in
       says_hold h w e o (subst (λ n. IsHolder log me a n e) is.1 (subst (λ b. IsHolder log me b run.base.serial e) is.0 holder), is.2) q
@@ -212,70 +212,70 @@ module _ (log : List Entry) (net : List Letter) (acks : List Event) (known : (n 
   says_holds h w (Unhold e o why) s q = says_plain h w (Unhold e o why) refl q
 
   -- what the node does beside
-  record Beside (before : List Letter) (t : There) : Type 0 where
-    more : List Letter
-    letters : t.out.letters ≡ before ++ more
-    of_node : (l : Letter) → Among l more → (n : ℕ) × (l.sender ≡ TheNode n)
+  record Beside (before : List Envelope) (t : NodeContext) : Type 0 where
+    more : List Envelope
+    envelopes : t.out.envelopes ≡ before ++ more
+    of_node : (l : Envelope) → Among l more → (n : ℕ) × (l.sender ≡ TheNode n)
 
-  beside_kept : (before : List Letter) → IsKeptThere (Beside before)
+  beside_kept : (before : List Envelope) → IsKeptThere (Beside before)
   beside_kept before = record {
-    opens = λ t w b. record { more = b.more; letters = b.letters; of_node = b.of_node };
+    opens = λ t w b. record { more = b.more; envelopes = b.envelopes; of_node = b.of_node };
     says = λ t w m b.
-        let l : Letter = letter (TheNode t.number) (TheWorker w) m in
+        let l : Envelope = envelope (TheNode t.number) (TheWorker w) m in
         record {
           more = b.more ++ l ∷ [];
-          letters = ap (λ ls. ls ++ l ∷ []) b.letters ∙ append_assoc before b.more (l ∷ []);
-          of_node = λ x i. elim (among-push_cases b.more l x i) [ inl f ↦ b.of_node x f | inr f ↦ (t.number, ap (λ (y : Letter). y.sender) f) ];
+          envelopes = ap (λ ls. ls ++ l ∷ []) b.envelopes ∙ append_assoc before b.more (l ∷ []);
+          of_node = λ x i. elim (among-push_cases b.more l x i) [ inl f ↦ b.of_node x f | inr f ↦ (t.number, ap (λ (y : Envelope). y.sender) f) ];
         };
-    scheduler = λ t s b. record { more = b.more; letters = b.letters; of_node = b.of_node };
-    store = λ t s b. record { more = b.more; letters = b.letters; of_node = b.of_node };
+    scheduler = λ t s b. record { more = b.more; envelopes = b.envelopes; of_node = b.of_node };
+    store = λ t s b. record { more = b.more; envelopes = b.envelopes; of_node = b.of_node };
   }
 
-  nothing_beside : (t : There) → Beside t.out.letters t
-  nothing_beside t = record { more = []; letters = sym (nil t.out.letters); of_node = λ l i. absurd (none l i) }
+  nothing_beside : (t : NodeContext) → Beside t.out.envelopes t
+  nothing_beside t = record { more = []; envelopes = sym (nil t.out.envelopes); of_node = λ l i. absurd (none l i) }
     where
-      nil : (ls : List Letter) → ls ++ [] ≡ ls
+      nil : (ls : List Envelope) → ls ++ [] ≡ ls
       nil [] = refl
       nil (l ∷ ls) = ap (λ xs. l ∷ xs) (nil ls)
 
-      none : (l : Letter) → Among l [] → ⊥
+      none : (l : Envelope) → Among l [] → ⊥
       none l i = let e = i.1 in cc
 
-  beside : (h : Here) (t : There) → Beside h.there.out.letters t → Holds h → Holds (with_there h t)
+  beside : (h : WorkerContext) (t : NodeContext) → Beside h.there.out.envelopes t → Holds h → Holds (with_there h t)
   beside h t b q = record {
     who = q.who;
     kept_began = q.kept_began;
     same = q.same;
-    run = λ run e. subst (λ xs. RunHolds log (net ++ xs) acks me p run) (sym b.letters) (longer h.there b.more run (q.run run e));
-    said = λ v e o i. elim (among-append_cases h.there.out.letters b.more (letter (TheWorker me) (TheWorker v) (Hold e o)) (subst (λ xs. Among (letter (TheWorker me)
-        (TheWorker v) (Hold e o)) xs) b.letters i)) [
+    run = λ run e. subst (λ xs. RunHolds log (net ++ xs) acks me p run) (sym b.envelopes) (longer h.there b.more run (q.run run e));
+    said = λ v e o i. elim (among-append_cases h.there.out.envelopes b.more (envelope (TheWorker me) (TheWorker v) (Hold e o)) (subst (λ xs. Among (envelope (TheWorker me)
+        (TheWorker v) (Hold e o)) xs) b.envelopes i)) [
           | inl old ↦ q.said v e o old
-          | inr new ↦ absurd (of_worker (b.of_node (letter (TheWorker me) (TheWorker v) (Hold e o)) new))
+          | inr new ↦ absurd (of_worker (b.of_node (envelope (TheWorker me) (TheWorker v) (Hold e o)) new))
         ];
   }
     where
       of_worker : ((n : ℕ) × (TheWorker me ≡ TheNode n)) → ⊥
       of_worker f = let g = f.1 in absurd (cc)
 
-  pub frees_holds : (h : Here) → Holds h → Holds (gives_slot_back h)
-  frees_holds h q = beside h _ (frees-kept (Beside h.there.out.letters) (beside_kept h.there.out.letters) h.there h.me (nothing_beside h.there)) q
+  pub frees_holds : (h : WorkerContext) → Holds h → Holds (gives_slot_back h)
+  frees_holds h q = beside h _ (frees-kept (Beside h.there.out.envelopes) (beside_kept h.there.out.envelopes) h.there h.me (nothing_beside h.there)) q
 
-  asks_holds : (h : Here) → Holds h → Holds (asks_for_slot h)
-  asks_holds h q = beside h _ (asks_slot-kept (Beside h.there.out.letters) (beside_kept h.there.out.letters) h.there h.me (nothing_beside h.there)) q
+  asks_holds : (h : WorkerContext) → Holds h → Holds (asks_for_slot h)
+  asks_holds h q = beside h _ (asks_slot-kept (Beside h.there.out.envelopes) (beside_kept h.there.out.envelopes) h.there h.me (nothing_beside h.there)) q
 
   -- another state of the attempt
-  pub next_holds : (h : Here) (run next : Run) → h.worker.run ≡ Some run → next.attempt ≡ run.attempt → next.base.serial ≡ run.base.serial →
+  pub next_holds : (h : WorkerContext) (run next : Execution) → h.worker.run ≡ Some run → next.attempt ≡ run.attempt → next.base.serial ≡ run.base.serial →
       RunHolds log (sent_by h.there) acks me p next → Holds h → Holds (with_run h next)
   next_holds h run next e f g r q = record {
     who = q.who;
     kept_began = q.kept_began;
-    same = λ x i. let is = q.same run e in subst (λ (y : Run). (y.attempt ≡ a) × (y.base.serial ≡ base) × Present) (same_run next x i) (f ∙ is.0, g ∙ is.1, is.2);
+    same = λ x i. let is = q.same run e in subst (λ (y : Execution). (y.attempt ≡ a) × (y.base.serial ≡ base) × Present) (same_run next x i) (f ∙ is.0, g ∙ is.1, is.2);
     run = λ x i. subst (RunHolds log (sent_by h.there) acks me p) (same_run next x i) r;
     said = q.said;
   }
 
   -- with the same Holds
-  pub still_holds : (h : Here) (run next : Run) → h.worker.run ≡ Some run → next.attempt ≡ run.attempt → next.base.serial ≡ run.base.serial →
+  pub still_holds : (h : WorkerContext) (run next : Execution) → h.worker.run ≡ Some run → next.attempt ≡ run.attempt → next.base.serial ≡ run.base.serial →
       next.holds ≡ run.holds → next.is_over ≡ run.is_over → Holds h → Holds (with_run h next)
   still_holds h run next e f g i j q =
       let r = q.run run e in
@@ -288,7 +288,7 @@ module _ (log : List Entry) (net : List Letter) (acks : List Event) (known : (n 
       }) q
 
   -- fewer Holds wait
-  fewer_holds : (h : Here) (run : Run) (test : Holding → Bool) → h.worker.run ≡ Some run → Holds h → Holds (with_run h (record run { holds = filter test run.holds }))
+  fewer_holds : (h : WorkerContext) (run : Execution) (test : Holding → Bool) → h.worker.run ≡ Some run → Holds h → Holds (with_run h (record run { holds = filter test run.holds }))
   fewer_holds h run test e q =
       let r = q.run run e in
       next_holds h run (record run { holds = filter test run.holds }) e refl refl (record {
@@ -297,17 +297,17 @@ module _ (log : List Entry) (net : List Letter) (acks : List Event) (known : (n 
         held = λ other k i. r.held other k (kept_among test run.holds k i);
       }) q
 
-  tells_stop_holds : (h : Here) (run : Run) (phase : Phase) → Holds h → Holds (tells_stop h run phase)
+  tells_stop_holds : (h : WorkerContext) (run : Execution) (phase : Phase) → Holds h → Holds (tells_stop h run phase)
   tells_stop_holds h run (HasEnded c) q = says_plain h _ _ refl q
   tells_stop_holds h run (HasFaulted f) q = says_plain h _ _ refl q
   tells_stop_holds h run Ready q = q
   tells_stop_holds h run (Out j) q = q
   tells_stop_holds h run (Waits y f) q = q
 
-  pub leaves_holds : (h : Here) → Holds h → Holds (leaves_if_free h)
+  pub leaves_holds : (h : WorkerContext) → Holds h → Holds (leaves_if_free h)
   leaves_holds h q = by_run h.worker.run refl
     where
-      over_now : (run : Run) → h.worker.run ≡ Some run → is_empty run.holds ≡ true → (next : Run) → next.attempt ≡ run.attempt → next.base.serial ≡ run.base.serial →
+      over_now : (run : Execution) → h.worker.run ≡ Some run → is_empty run.holds ≡ true → (next : Execution) → next.attempt ≡ run.attempt → next.base.serial ≡ run.base.serial →
           next.holds ≡ run.holds → Holds (with_run h next)
       over_now run e none next f g i =
           let r = q.run run e in
@@ -320,10 +320,10 @@ module _ (log : List Entry) (net : List Letter) (acks : List Event) (known : (n 
           nobody : (k : Holding) → Among k [] → ⊥
           nobody k there = let x = there.1 in cc
 
-      by_run : (r : Option Run) → h.worker.run ≡ r → Holds (leaves_by h r)
+      by_run : (r : Option Execution) → h.worker.run ≡ r → Holds (leaves_by h r)
       by_run None e = q
       by_run (Some run) e =
-          let over : Run = record run { is_over = true } in
+          let over : Execution = record run { is_over = true } in
           at_test (λ b. (has_stopped run.phase && not run.is_over && is_empty run.holds) ≡ b → Holds (if b then leaves h over else h))
           (has_stopped run.phase && not run.is_over && is_empty run.holds)
           (λ _ t.
@@ -350,11 +350,11 @@ module _ (log : List Entry) (net : List Letter) (acks : List Event) (known : (n 
     fetches = λ h run y f g e w q. still_holds h run (record run { phase = Waits y g }) e refl refl refl refl q;
     heard = λ h run e q. still_holds h run (record run { is_acknowledged = true }) e refl refl refl refl q;
     gets = λ h run c y f e w q.
-        let g : Here = with_run h (with_answer run c) in
+        let g : WorkerContext = with_run h (with_answer run c) in
         let r : Holds g = still_holds h run (with_answer run c) e refl refl refl refl q in
         asks_holds (logs g (Got run.attempt y c)) (record { who = r.who; kept_began = r.kept_began; same = r.same; run = r.run; said = r.said });
     faults = λ h run f y w e i q.
-        let g : Here = with_phase h run (HasFaulted f) in
+        let g : WorkerContext = with_phase h run (HasFaulted f) in
         let r : Holds g = still_holds h run (record run { phase = HasFaulted f }) e refl refl refl refl q in
         leaves_holds (gives_slot_back (logs g (Faulted run.attempt y f)))
         (frees_holds (logs g (Faulted run.attempt y f)) (record { who = r.who; kept_began = r.kept_began; same = r.same; run = r.run; said = r.said }));

@@ -13,14 +13,14 @@ use Rattle.event_log.specs.Entries.{Accepted, Attempt, Born, Deliver, Ended, Ent
 use Rattle.event_log.specs.Events.{accepted_events, node_of, was_lost}
 use Rattle.event_log.specs.Rules.{Setting}
 use Rattle.event_log.specs.Words.{attempt, births, worker_of}
-use Rattle.protocol.specs.Messages.{Ask, At, CopyOf, EndedResult, Fetch, Finished, FinishedAck, Hold, HoldAck, Letter, letter, Message, Missing, Party, Push, Reason}
+use Rattle.protocol.specs.Messages.{Ask, At, CopyOf, EndedResult, Fetch, Finished, FinishedAck, Hold, HoldAck, Envelope, envelope, Message, Missing, Endpoint, Push, Reason}
 use Rattle.protocol.specs.Messages.{TheNode, TheWorker, Unhold, Where}
 use Rattle.protocol.specs.Numbered.{item_at}
 use Rattle.protocol.specs.Sets.{object_id}
 use Rattle.protocol_owed.specs.Ends.{EndsAreReported, HoldsAreAcknowledged, IsHoldOf}
 use Rattle.protocol_owed.specs.Replies.{BirthIsAsked, FetchIsAnswered, FinishIsAcknowledged, HasFirstCopy, IsRequest, RequestIsTold, Says}
 use Rattle.protocol_owed.specs.Seen.{IsContentOf, IsKnownAt, Tells, deliveries}
-use Rattle.protocol_owed.proofs.Letters.{among-nothing}
+use Rattle.protocol_owed.proofs.Envelopes.{among-nothing}
 use Rattle.owed_asks.specs.of_lease_discipline.Examples.{first_one, given_log, one_once}
 
 -- ---- a birth
@@ -33,28 +33,28 @@ born_parts o a f args depth retries others (suc k, e) = absurd (cc)
 on_one : (n : ℕ) → ◌≡◌ {A = Option ℕ} (Some 1) (Some n) → 1 ≡ n
 on_one n e = cc
 
-birth_is_paid : (s : Setting) → BirthIsAsked (birth_comes s (letter (TheWorker 1) (TheNode 1) (Ask first_one 0) ∷ []))
+birth_is_paid : (s : Setting) → BirthIsAsked (birth_comes s (envelope (TheWorker 1) (TheNode 1) (Ask first_one 0) ∷ []))
 birth_is_paid s o a f args depth retries others n born place =
     let is : object_id 1 1 ≡ o = born_parts o a f args depth retries others born in
-    let after = (birth_comes s (letter (TheWorker 1) (TheNode 1) (Ask first_one 0) ∷ [])).after.log in
+    let after = (birth_comes s (envelope (TheWorker 1) (TheNode 1) (Ask first_one 0) ∷ [])).after.log in
     let node : 1 ≡ n = on_one n (ap (λ (p : Id). node_of p.owner after) is ∙ place) in
     (zero, asked o n is node)
   where
     asked : (o : Id) (n : ℕ) → object_id 1 1 ≡ o → 1 ≡ n →
-        ◌≡◌ {A = Option Letter} (Some (letter (TheWorker 1) (TheNode 1) (Ask first_one 0))) (Some (letter (TheWorker o.owner) (TheNode n) (Ask
+        ◌≡◌ {A = Option Envelope} (Some (envelope (TheWorker 1) (TheNode 1) (Ask first_one 0))) (Some (envelope (TheWorker o.owner) (TheNode n) (Ask
         (attempt o 0) 0)))
     asked o n e f =
-        ap (λ (p : Id). Some (letter (TheWorker p.owner) (TheNode 1) (Ask (attempt p 0) 0))) e ∙
-        ap (λ m. Some (letter (TheWorker o.owner) (TheNode m) (Ask (attempt o 0) 0))) f
+        ap (λ (p : Id). Some (envelope (TheWorker p.owner) (TheNode 1) (Ask (attempt p 0) 0))) e ∙
+        ap (λ m. Some (envelope (TheWorker o.owner) (TheNode m) (Ask (attempt o 0) 0))) f
 
-asks_by : (s : Setting) (ls : List Letter) → BirthIsAsked (birth_comes s ls) → Says (birth_comes s ls) (TheWorker 1) (TheNode 1) (Ask first_one 0)
+asks_by : (s : Setting) (ls : List Envelope) → BirthIsAsked (birth_comes s ls) → Says (birth_comes s ls) (TheWorker 1) (TheNode 1) (Ask first_one 0)
 asks_by s ls p = p (object_id 1 1) main_attempt _ _ _ _ _ 1 (zero, refl) refl
 
-not_there : Among (letter (TheWorker 1) (TheNode 1) (Ask first_one 0)) (letter (TheWorker 1) (TheNode 2) (Ask first_one 0) ∷ []) → ⊥
-not_there (zero, e) = numbers (ap (λ (l : Letter). l.receiver) (same e))
+not_there : Among (envelope (TheWorker 1) (TheNode 1) (Ask first_one 0)) (envelope (TheWorker 1) (TheNode 2) (Ask first_one 0) ∷ []) → ⊥
+not_there (zero, e) = numbers (ap (λ (l : Envelope). l.receiver) (same e))
   where
-    same : ◌≡◌ {A = Option Letter} (Some (letter (TheWorker 1) (TheNode 2) (Ask first_one 0))) (Some (letter (TheWorker 1) (TheNode 1) (Ask first_one 0))) →
-        letter (TheWorker 1) (TheNode 2) (Ask first_one 0) ≡ letter (TheWorker 1) (TheNode 1) (Ask first_one 0)
+    same : ◌≡◌ {A = Option Envelope} (Some (envelope (TheWorker 1) (TheNode 2) (Ask first_one 0))) (Some (envelope (TheWorker 1) (TheNode 1) (Ask first_one 0))) →
+        envelope (TheWorker 1) (TheNode 2) (Ask first_one 0) ≡ envelope (TheWorker 1) (TheNode 1) (Ask first_one 0)
     same f = cc
 
     numbers : TheNode 2 ≡ TheNode 1 → ⊥
@@ -65,7 +65,7 @@ pub births_are_judged : BirthsAreJudged
 births_are_judged = record {
   paid = birth_is_paid;
   unasked = λ s p. among-nothing _ (asks_by s [] p);
-  elsewhere = λ s p. not_there (asks_by s (letter (TheWorker 1) (TheNode 2) (Ask first_one 0) ∷ []) p);
+  elsewhere = λ s p. not_there (asks_by s (envelope (TheWorker 1) (TheNode 2) (Ask first_one 0) ∷ []) p);
 }
 
 -- ---- an end
@@ -74,14 +74,14 @@ abbrev no_ids : List EndedResult
 no_ids = record { ids = []; kept = None } ∷ []
 
 end_parts : (w v : ℕ) (a : Attempt) (n : ℕ) (rs : List EndedResult) →
-    ◌≡◌ {A = Option Letter} (Some (letter (TheWorker 2) (TheWorker 1) (Finished first_one 1 no_ids))) (Some (letter (TheWorker w) (TheWorker v)
+    ◌≡◌ {A = Option Envelope} (Some (envelope (TheWorker 2) (TheWorker 1) (Finished first_one 1 no_ids))) (Some (envelope (TheWorker w) (TheWorker v)
     (Finished a n rs))) →
     (2 ≡ w) × (1 ≡ v) × (first_one ≡ a)
 end_parts w v a n rs e =
-    let same : letter (TheWorker 2) (TheWorker 1) (Finished first_one 1 no_ids) ≡ letter (TheWorker w) (TheWorker v) (Finished a n rs) = cc in
-    let from : TheWorker 2 ≡ TheWorker w = ap (λ (l : Letter). l.sender) same in
-    let to : TheWorker 1 ≡ TheWorker v = ap (λ (l : Letter). l.receiver) same in
-    let says : Finished first_one 1 no_ids ≡ Finished a n rs = ap (λ (l : Letter). l.message) same in
+    let same : envelope (TheWorker 2) (TheWorker 1) (Finished first_one 1 no_ids) ≡ envelope (TheWorker w) (TheWorker v) (Finished a n rs) = cc in
+    let from : TheWorker 2 ≡ TheWorker w = ap (λ (l : Envelope). l.sender) same in
+    let to : TheWorker 1 ≡ TheWorker v = ap (λ (l : Envelope). l.receiver) same in
+    let says : Finished first_one 1 no_ids ≡ Finished a n rs = ap (λ (l : Envelope). l.message) same in
     (cc, cc, cc)
 
 first_number : (k : ℕ) → Deliver 1 ≡ Deliver k → 1 ≡ k
@@ -90,11 +90,11 @@ first_number k e = cc
 end_is_paid : (s : Setting) → FinishIsAcknowledged (end_comes s (Accepted first_one ∷ []) acknowledged)
 end_is_paid s w v a n rs brings =
     let parts = end_parts w v a n rs
-    (subst (λ i. item_at ended_network i ≡ Some (letter (TheWorker w) (TheWorker v) (Finished a n rs))) (sym (first_number brings.0 brings.1)) brings.2) in
+    (subst (λ i. item_at ended_network i ≡ Some (envelope (TheWorker w) (TheWorker v) (Finished a n rs))) (sym (first_number brings.0 brings.1)) brings.2) in
     ((zero, sent w v a parts.0 parts.1 parts.2), λ _. (zero, ap (λ i. Some (Accepted i)) parts.2))
   where
     sent : (w v : ℕ) (a : Attempt) → 2 ≡ w → 1 ≡ v → first_one ≡ a →
-        ◌≡◌ {A = Option Letter} (Some (letter (TheWorker 1) (TheWorker 2) (FinishedAck first_one))) (Some (letter (TheWorker v) (TheWorker w)
+        ◌≡◌ {A = Option Envelope} (Some (envelope (TheWorker 1) (TheWorker 2) (FinishedAck first_one))) (Some (envelope (TheWorker v) (TheWorker w)
         (FinishedAck a)))
     sent w v a e f g = cc
 
@@ -152,7 +152,7 @@ first_is_there s = record {
   first = inl (record { value = empty_list; put = was_put; first = refl; place = refl });
   big = λ part c r. absurd (no_end (attempt part.born.object 0) r.contents r.ended);
   unlost = nothing_lost;
-  kept = λ from e why came. among-nothing _ (subst (λ ls. Among (letter from (TheNode 1) (Unhold e (object_id 1 1) why)) ls) (nothing_came s) came);
+  kept = λ from e why came. among-nothing _ (subst (λ ls. Among (envelope from (TheNode 1) (Unhold e (object_id 1 1) why)) ls) (nothing_came s) came);
 }
 
 put_alone : (c : Outcome) → IsContentOf put_log (object_id 1 1) 0 c → c ≡ Val empty_list
@@ -163,12 +163,12 @@ put_alone c (inl (v, born, first, is)) = is ∙ same v (sym born ∙ was_put)
 put_alone c (inr (part, r)) = absurd (no_end (attempt part.born.object 0) r.contents r.ended)
 
 not_that : (c : Outcome) → c ≡ Val empty_list →
-    Among (letter (TheNode 1) (TheWorker 2) (CopyOf (object_id 1 1) 0 c)) (letter (TheNode 1) (TheWorker 2) (CopyOf (object_id 1 1) 0 (Val long_list)) ∷ []) → ⊥
-not_that c is (zero, e) = differ (content c (ap (λ (l : Letter). l.message) (same c e)) ∙ is)
+    Among (envelope (TheNode 1) (TheWorker 2) (CopyOf (object_id 1 1) 0 c)) (envelope (TheNode 1) (TheWorker 2) (CopyOf (object_id 1 1) 0 (Val long_list)) ∷ []) → ⊥
+not_that c is (zero, e) = differ (content c (ap (λ (l : Envelope). l.message) (same c e)) ∙ is)
   where
-    same : (c : Outcome) → ◌≡◌ {A = Option Letter} (Some (letter (TheNode 1) (TheWorker 2) (CopyOf (object_id 1 1) 0 (Val long_list))))
-        (Some (letter (TheNode 1) (TheWorker 2) (CopyOf (object_id 1 1) 0 c))) →
-        letter (TheNode 1) (TheWorker 2) (CopyOf (object_id 1 1) 0 (Val long_list)) ≡ letter (TheNode 1) (TheWorker 2) (CopyOf (object_id 1 1) 0 c)
+    same : (c : Outcome) → ◌≡◌ {A = Option Envelope} (Some (envelope (TheNode 1) (TheWorker 2) (CopyOf (object_id 1 1) 0 (Val long_list))))
+        (Some (envelope (TheNode 1) (TheWorker 2) (CopyOf (object_id 1 1) 0 c))) →
+        envelope (TheNode 1) (TheWorker 2) (CopyOf (object_id 1 1) 0 (Val long_list)) ≡ envelope (TheNode 1) (TheWorker 2) (CopyOf (object_id 1 1) 0 c)
     same c f = cc
 
     content : (c : Outcome) → CopyOf (object_id 1 1) 0 (Val long_list) ≡ CopyOf (object_id 1 1) 0 c → Val long_list ≡ c
@@ -191,11 +191,11 @@ record AsksForIt (w : ℕ) (y : Id) : Type 0 where
   object : object_id 1 1 ≡ y
   asker : 2 ≡ w
 
-asked_so : (w : ℕ) (y : Id) (m : Message) → letter (TheWorker 2) (TheWorker 1) (Where (object_id 1 1)) ≡ letter (TheWorker w) (TheWorker y.owner) m →
+asked_so : (w : ℕ) (y : Id) (m : Message) → envelope (TheWorker 2) (TheWorker 1) (Where (object_id 1 1)) ≡ envelope (TheWorker w) (TheWorker y.owner) m →
     IsRequest y m → AsksForIt w y
 asked_so w y m e (inl is) = record {
-  object = named (ap (λ (l : Letter). l.message) e ∙ is);
-  asker = sent_by (ap (λ (l : Letter). l.sender) e);
+  object = named (ap (λ (l : Envelope). l.message) e ∙ is);
+  asker = sent_by (ap (λ (l : Envelope). l.sender) e);
 }
   where
     named : Where (object_id 1 1) ≡ Where y → object_id 1 1 ≡ y
@@ -203,13 +203,13 @@ asked_so w y m e (inl is) = record {
 
     sent_by : TheWorker 2 ≡ TheWorker w → 2 ≡ w
     sent_by f = cc
-asked_so w y m e (inr (number, n, is)) = absurd (apart (ap (λ (l : Letter). l.message) e ∙ is))
+asked_so w y m e (inr (number, n, is)) = absurd (apart (ap (λ (l : Envelope). l.message) e ∙ is))
   where
     apart : Where (object_id 1 1) ≡ Missing y number n → ⊥
     apart f = cc
 
-one_message : (s : Setting) (k : ℕ) (l : Letter) → item_at (request_scene s).network k ≡ Some l →
-    letter (TheWorker 2) (TheWorker 1) (Where (object_id 1 1)) ≡ l
+one_message : (s : Setting) (k : ℕ) (l : Envelope) → item_at (request_scene s).network k ≡ Some l →
+    envelope (TheWorker 2) (TheWorker 1) (Where (object_id 1 1)) ≡ l
 one_message s zero l e = absurd (cc)
 one_message s (suc zero) l e = cc
 one_message s (suc (suc k)) l e = absurd (cc)
@@ -232,13 +232,13 @@ known_there number n (inl p) = record { number_is = p.first; node_is = on_one n 
 known_there number n (inr q) = absurd (no_acceptance _ q.accepted)
 
 told_there : (s : Setting) (w : ℕ) (y : Id) (number n : ℕ) → AsksForIt w y → IsKnownAt put_log y number n →
-    Tells put_log (request_comes s at_first_copy).letters y w number n
+    Tells put_log (request_comes s at_first_copy).envelopes y w number n
 told_there s w y number n asks known =
     let there = known_there number n (subst (λ o. IsKnownAt put_log o number n) (sym asks.object) known) in
-    subst (λ o. Tells put_log (request_comes s at_first_copy).letters o w number n) asks.object
-    (subst (λ v. Tells put_log (request_comes s at_first_copy).letters (object_id 1 1) v number n) asks.asker
-    (subst (λ i. Tells put_log (request_comes s at_first_copy).letters (object_id 1 1) 2 i n) (sym there.number_is)
-    (subst (λ m. Tells put_log (request_comes s at_first_copy).letters (object_id 1 1) 2 0 m) there.node_is
+    subst (λ o. Tells put_log (request_comes s at_first_copy).envelopes o w number n) asks.object
+    (subst (λ v. Tells put_log (request_comes s at_first_copy).envelopes (object_id 1 1) v number n) asks.asker
+    (subst (λ i. Tells put_log (request_comes s at_first_copy).envelopes (object_id 1 1) 2 i n) (sym there.number_is)
+    (subst (λ m. Tells put_log (request_comes s at_first_copy).envelopes (object_id 1 1) 2 0 m) there.node_is
     (record { nodes = 1 ∷ []; kept = None; told = (zero, refl); named = λ _. refl; known = λ c e. absurd (none_some c e) }))))
   where
     none_some : (c : Outcome) → ◌≡◌ {A = Option Outcome} None (Some c) → ⊥
@@ -246,7 +246,7 @@ told_there s w y number n asks known =
 
 place_is_paid : (s : Setting) → RequestIsTold (request_comes s at_first_copy)
 place_is_paid s w y m number n (k, event, sent) request known unreleased =
-    told_there s w y number n (asked_so w y m (one_message s k (letter (TheWorker w) (TheWorker y.owner) m) sent) request) known
+    told_there s w y number n (asked_so w y m (one_message s k (envelope (TheWorker w) (TheWorker y.owner) m) sent) request) known
 
 none_released : Among (Released (object_id 1 1)) put_log → ⊥
 none_released (zero, e) = absurd (cc)
@@ -258,12 +258,12 @@ none_released (suc (suc (suc (suc (suc k)))), e) = absurd (cc)
 
 -- what came with it
 comes_with : (nodes : List ℕ) (kept : Option Outcome) →
-    Among (letter (TheWorker 1) (TheWorker 2) (At (object_id 1 1) 0 nodes kept)) (letter (TheWorker 1) (TheWorker 2) at_another ∷ []) → kept ≡ Some (Val long_list)
-comes_with nodes kept (zero, e) = content (ap (λ (l : Letter). l.message) (same e))
+    Among (envelope (TheWorker 1) (TheWorker 2) (At (object_id 1 1) 0 nodes kept)) (envelope (TheWorker 1) (TheWorker 2) at_another ∷ []) → kept ≡ Some (Val long_list)
+comes_with nodes kept (zero, e) = content (ap (λ (l : Envelope). l.message) (same e))
   where
-    same : ◌≡◌ {A = Option Letter} (Some (letter (TheWorker 1) (TheWorker 2) at_another))
-        (Some (letter (TheWorker 1) (TheWorker 2) (At (object_id 1 1) 0 nodes kept))) →
-        letter (TheWorker 1) (TheWorker 2) at_another ≡ letter (TheWorker 1) (TheWorker 2) (At (object_id 1 1) 0 nodes kept)
+    same : ◌≡◌ {A = Option Envelope} (Some (envelope (TheWorker 1) (TheWorker 2) at_another))
+        (Some (envelope (TheWorker 1) (TheWorker 2) (At (object_id 1 1) 0 nodes kept))) →
+        envelope (TheWorker 1) (TheWorker 2) at_another ≡ envelope (TheWorker 1) (TheWorker 2) (At (object_id 1 1) 0 nodes kept)
     same f = cc
 
     content : at_another ≡ At (object_id 1 1) 0 nodes kept → kept ≡ Some (Val long_list)
@@ -329,16 +329,16 @@ never_lost : was_lost 1 (object_id 1 1) unaccepted_log ≡ false
 unfolding was_lost accepted_events
 never_lost = refl
 
-only_fetched : (s : Setting) → deliveries (fetch_scene s unaccepted_log false) ≡ letter (TheWorker 2) (TheNode 1) (Fetch (object_id 1 1) 0) ∷ []
+only_fetched : (s : Setting) → deliveries (fetch_scene s unaccepted_log false) ≡ envelope (TheWorker 2) (TheNode 1) (Fetch (object_id 1 1) 0) ∷ []
 unfolding accepted_events
 only_fetched s = refl
 
-no_word : (from : Party) (e : Id) (why : Reason) →
-    Among (letter from (TheNode 1) (Unhold e (object_id 1 1) why)) (letter (TheWorker 2) (TheNode 1) (Fetch (object_id 1 1) 0) ∷ []) → ⊥
-no_word from e why (zero, f) = other (ap (λ (l : Letter). l.message) (same f))
+no_word : (from : Endpoint) (e : Id) (why : Reason) →
+    Among (envelope from (TheNode 1) (Unhold e (object_id 1 1) why)) (envelope (TheWorker 2) (TheNode 1) (Fetch (object_id 1 1) 0) ∷ []) → ⊥
+no_word from e why (zero, f) = other (ap (λ (l : Envelope). l.message) (same f))
   where
-    same : ◌≡◌ {A = Option Letter} (Some (letter (TheWorker 2) (TheNode 1) (Fetch (object_id 1 1) 0))) (Some (letter from (TheNode 1) (Unhold e (object_id 1 1) why))) →
-        letter (TheWorker 2) (TheNode 1) (Fetch (object_id 1 1) 0) ≡ letter from (TheNode 1) (Unhold e (object_id 1 1) why)
+    same : ◌≡◌ {A = Option Envelope} (Some (envelope (TheWorker 2) (TheNode 1) (Fetch (object_id 1 1) 0))) (Some (envelope from (TheNode 1) (Unhold e (object_id 1 1) why))) →
+        envelope (TheWorker 2) (TheNode 1) (Fetch (object_id 1 1) 0) ≡ envelope from (TheNode 1) (Unhold e (object_id 1 1) why)
     same g = cc
 
     other : Fetch (object_id 1 1) 0 ≡ Unhold e (object_id 1 1) why → ⊥
@@ -357,16 +357,16 @@ ended_is_there s = record {
   });
   big = λ part c r. long_content r.contents part.place c (long_end (attempt part.born.object 0) r.contents r.ended) r.content;
   unlost = never_lost;
-  kept = λ from e why came. no_word from e why (subst (λ ls. Among (letter from (TheNode 1) (Unhold e (object_id 1 1) why)) ls) (only_fetched s) came);
+  kept = λ from e why came. no_word from e why (subst (λ ls. Among (envelope from (TheNode 1) (Unhold e (object_id 1 1) why)) ls) (only_fetched s) came);
 }
 
 no_copy : (c : Outcome) →
-    Among (letter (TheNode 1) (TheWorker 2) (CopyOf (object_id 1 1) 0 c)) (letter (TheNode 1) (TheWorker 2) (Missing (object_id 1 1) 0 1) ∷ []) → ⊥
-no_copy c (zero, e) = other (ap (λ (l : Letter). l.message) (same e))
+    Among (envelope (TheNode 1) (TheWorker 2) (CopyOf (object_id 1 1) 0 c)) (envelope (TheNode 1) (TheWorker 2) (Missing (object_id 1 1) 0 1) ∷ []) → ⊥
+no_copy c (zero, e) = other (ap (λ (l : Envelope). l.message) (same e))
   where
-    same : ◌≡◌ {A = Option Letter} (Some (letter (TheNode 1) (TheWorker 2) (Missing (object_id 1 1) 0 1))) (Some (letter (TheNode 1) (TheWorker 2) (CopyOf
+    same : ◌≡◌ {A = Option Envelope} (Some (envelope (TheNode 1) (TheWorker 2) (Missing (object_id 1 1) 0 1))) (Some (envelope (TheNode 1) (TheWorker 2) (CopyOf
         (object_id 1 1) 0 c))) →
-        letter (TheNode 1) (TheWorker 2) (Missing (object_id 1 1) 0 1) ≡ letter (TheNode 1) (TheWorker 2) (CopyOf (object_id 1 1) 0 c)
+        envelope (TheNode 1) (TheWorker 2) (Missing (object_id 1 1) 0 1) ≡ envelope (TheNode 1) (TheWorker 2) (CopyOf (object_id 1 1) 0 c)
     same f = cc
 
     other : Missing (object_id 1 1) 0 1 ≡ CopyOf (object_id 1 1) 0 c → ⊥
@@ -391,43 +391,43 @@ fetches_are_judged = record {
 
 -- ---- a report
 
-abbrev report_network : List Letter → List Letter
-report_network letters = letter (TheWorker 1) (TheWorker 2) (Push first_one one_once) ∷ letters
+abbrev report_network : List Envelope → List Envelope
+report_network envelopes = envelope (TheWorker 1) (TheWorker 2) (Push first_one one_once) ∷ envelopes
 
-abbrev one_hold : List Letter
-one_hold = letter (TheWorker 2) (TheWorker 3) (Hold (object_id 1 1) (object_id 3 1)) ∷ []
+abbrev one_hold : List Envelope
+one_hold = envelope (TheWorker 2) (TheWorker 3) (Hold (object_id 1 1) (object_id 3 1)) ∷ []
 
 not_main : first_one ≡ main_attempt → ⊥
 not_main e = let f : ◌≡◌ {A = ℕ} 1 0 = ap (λ (a : Attempt). a.object.serial) e in omega (arith, f)
 
-runs_first : (s : Setting) (letters : List Letter) → worker_of first_one (report_scene s letters).log ≡ Some 2
+runs_first : (s : Setting) (envelopes : List Envelope) → worker_of first_one (report_scene s envelopes).log ≡ Some 2
 unfolding same_id
-runs_first s letters = refl
+runs_first s envelopes = refl
 
-only_first : (s : Setting) (letters : List Letter) (a : Attempt) (c : List Outcome) → Among (Ended a c) (report_scene s letters).log → first_one ≡ a
-only_first s letters a c (zero, e) = absurd (cc)
-only_first s letters a c (suc zero, e) = absurd (cc)
-only_first s letters a c (suc (suc zero), e) = absurd (cc)
-only_first s letters a c (suc (suc (suc zero)), e) = absurd (cc)
-only_first s letters a c (suc (suc (suc (suc zero))), e) = absurd (cc)
-only_first s letters a c (suc (suc (suc (suc (suc zero)))), e) = absurd (cc)
-only_first s letters a c (suc (suc (suc (suc (suc (suc zero))))), e) = absurd (cc)
-only_first s letters a c (suc (suc (suc (suc (suc (suc (suc zero)))))), e) = absurd (cc)
-only_first s letters a c (suc (suc (suc (suc (suc (suc (suc (suc zero))))))), e) = cc
-only_first s letters a c (suc (suc (suc (suc (suc (suc (suc (suc (suc k)))))))), e) = absurd (cc)
+only_first : (s : Setting) (envelopes : List Envelope) (a : Attempt) (c : List Outcome) → Among (Ended a c) (report_scene s envelopes).log → first_one ≡ a
+only_first s envelopes a c (zero, e) = absurd (cc)
+only_first s envelopes a c (suc zero, e) = absurd (cc)
+only_first s envelopes a c (suc (suc zero), e) = absurd (cc)
+only_first s envelopes a c (suc (suc (suc zero)), e) = absurd (cc)
+only_first s envelopes a c (suc (suc (suc (suc zero))), e) = absurd (cc)
+only_first s envelopes a c (suc (suc (suc (suc (suc zero)))), e) = absurd (cc)
+only_first s envelopes a c (suc (suc (suc (suc (suc (suc zero))))), e) = absurd (cc)
+only_first s envelopes a c (suc (suc (suc (suc (suc (suc (suc zero)))))), e) = absurd (cc)
+only_first s envelopes a c (suc (suc (suc (suc (suc (suc (suc (suc zero))))))), e) = cc
+only_first s envelopes a c (suc (suc (suc (suc (suc (suc (suc (suc (suc k)))))))), e) = absurd (cc)
 
-no_hold : (k v : ℕ) (e o : Id) → item_at (report_network []) k ≡ Some (letter (TheWorker 2) (TheWorker v) (Hold e o)) → ⊥
+no_hold : (k v : ℕ) (e o : Id) → item_at (report_network []) k ≡ Some (envelope (TheWorker 2) (TheWorker v) (Hold e o)) → ⊥
 no_hold zero v e o f = cc
 no_hold (suc zero) v e o f =
-    let same : letter (TheWorker 1) (TheWorker 2) (Push first_one one_once) ≡ letter (TheWorker 2) (TheWorker v) (Hold e o) = cc in
-    let g : Push first_one one_once ≡ Hold e o = ap (λ (l : Letter). l.message) same in
+    let same : envelope (TheWorker 1) (TheWorker 2) (Push first_one one_once) ≡ envelope (TheWorker 2) (TheWorker v) (Hold e o) = cc in
+    let g : Push first_one one_once ≡ Hold e o = ap (λ (l : Envelope). l.message) same in
     absurd (cc)
 no_hold (suc (suc k)) v e o f = cc
 
-no_report : (n : ℕ) (rs : List EndedResult) → Among (letter (TheWorker 2) (TheWorker 1) (Finished first_one n rs)) (report_network []) → ⊥
+no_report : (n : ℕ) (rs : List EndedResult) → Among (envelope (TheWorker 2) (TheWorker 1) (Finished first_one n rs)) (report_network []) → ⊥
 no_report n rs (zero, e) =
-    let same : letter (TheWorker 1) (TheWorker 2) (Push first_one one_once) ≡ letter (TheWorker 2) (TheWorker 1) (Finished first_one n rs) = cc in
-    let g : Push first_one one_once ≡ Finished first_one n rs = ap (λ (l : Letter). l.message) same in
+    let same : envelope (TheWorker 1) (TheWorker 2) (Push first_one one_once) ≡ envelope (TheWorker 2) (TheWorker 1) (Finished first_one n rs) = cc in
+    let g : Push first_one one_once ≡ Finished first_one n rs = ap (λ (l : Envelope). l.message) same in
     absurd (cc)
 no_report n rs (suc k, e) = absurd (cc)
 
@@ -445,11 +445,11 @@ hold_is_its s = record {
   held = record { there = refl; behind = omega arith; between = λ i far less at. absurd (omega (arith, far, less)) };
 }
   where
-    none : (i : ℕ) → i < 1 → item_at (report_network one_hold) i ≡ Some (letter (TheWorker 1) (TheWorker 2) (Push first_one one_once)) → ⊥
+    none : (i : ℕ) → i < 1 → item_at (report_network one_hold) i ≡ Some (envelope (TheWorker 1) (TheWorker 2) (Push first_one one_once)) → ⊥
     none zero less at = cc
     none (suc i) less at = omega (arith, less)
 
-no_younger : (n : ℕ) (l : Letter) → 2 < n → item_at (report_network one_hold) n ≡ Some l → ⊥
+no_younger : (n : ℕ) (l : Envelope) → 2 < n → item_at (report_network one_hold) n ≡ Some l → ⊥
 no_younger zero l less at = omega (arith, less)
 no_younger (suc zero) l less at = omega (arith, less)
 no_younger (suc (suc zero)) l less at = omega (arith, less)
@@ -458,7 +458,7 @@ no_younger (suc (suc (suc k))) l less at = cc
 never_told : (s : Setting) → HoldsAreAcknowledged (report_scene s one_hold) first_one 2 → ⊥
 never_told s all =
     let ack = all 2 (object_id 1 1) (object_id 3 1) (hold_is_its s) in
-    no_younger ack.number (letter (TheWorker 3) (TheWorker 2) (HoldAck (object_id 1 1) (object_id 3 1))) ack.since ack.sent
+    no_younger ack.number (envelope (TheWorker 3) (TheWorker 2) (HoldAck (object_id 1 1) (object_id 3 1))) ack.since ack.sent
 
 waiting_is_allowed : (s : Setting) → EndsAreReported (report_scene s one_hold)
 waiting_is_allowed s a c w ended other ran all =

@@ -26,20 +26,20 @@ use Rattle.event_log.proofs.EventLaws.{accepted-append, accepted-event}
 use Rattle.event_log.proofs.WordLaws.{same_attempt-refl}
 use Rattle.protocol.specs.Answers.{Answer, Refuses, answer, decided, given_out, logged, takes, whole_after}
 use Rattle.protocol.specs.Events.{happens}
-use Rattle.protocol.specs.Jobs.{Handed}
-use Rattle.protocol.specs.Messages.{Letter, Party, Reason, TheNode, Unhold, letter}
+use Rattle.protocol.specs.Jobs.{CommitInput}
+use Rattle.protocol.specs.Messages.{Envelope, Endpoint, Reason, TheNode, Unhold, envelope}
 use Rattle.protocol.specs.Nodes.{Node}
 use Rattle.protocol.specs.Numbered.{item_at}
 use Rattle.protocol.specs.Refusals.{is_within_limits, refusal}
 use Rattle.protocol.specs.Stores.{Copy, is_copy_of}
 use Rattle.protocol.specs.Tables.{Worker}
-use Rattle.protocol.specs.Whole.{Moved, Whole, first_whole, node_at, worker_at}
+use Rattle.protocol.specs.Cluster.{Transition, ClusterState, first_whole, node_at, worker_at}
 use Rattle.owed_asks.specs.of_protocol_legal.Made.{EndsSmall, IsMadeAt}
 use Rattle.protocol_owed.specs.Replies.{HasFirstCopy}
 use Rattle.protocol_owed.specs.Runs.{Handing, Running, after_event, after_events, is_copy, keeps_in, opening_run, seen}
-use Rattle.protocol_owed.specs.Seen.{EndedAt, PutAt, delivered_in, letters_by}
+use Rattle.protocol_owed.specs.Seen.{EndedAt, PutAt, delivered_in, envelopes_by}
 use Rattle.protocol_owed.proofs.Counting.{happens-counted, no_event, not_refused}
-use Rattle.protocol_owed.proofs.Letters.{among-behind, among-more, among-nothing}
+use Rattle.protocol_owed.proofs.Envelopes.{among-behind, among-more, among-nothing}
 use Rattle.protocol_owed.proofs.Nodes.{there_more}
 use Rattle.owed_asks.specs.of_lease_discipline.Slots.{AreRight}
 use Rattle.owed_asks.specs.of_lease_discipline.Told.{IsInStep}
@@ -54,35 +54,35 @@ use Rattle.owed_laws.proofs.StoreEvents.{Makes, TakesCopies, event_makes}
 use Rattle.owed_laws.proofs.StoreMoves.{Stores}
 
 -- word of the object's release came to the node
-abbrev pub WasDropped : List Letter → List Entry → ℕ → Id → Type 0
-WasDropped sent log n o = (from : Party) × (e : Id) × (why : Reason) × Among (letter from (TheNode n) (Unhold e o why)) (came_by sent log)
+abbrev pub WasDropped : List Envelope → List Entry → ℕ → Id → Type 0
+WasDropped sent log n o = (from : Endpoint) × (e : Id) × (why : Reason) × Among (envelope from (TheNode n) (Unhold e o why)) (came_by sent log)
 
 -- what was made at the node isn't there any more, or, small as it is, never was
-abbrev pub IsGone : List Letter → List Entry → ℕ → Id → ℕ → Type 0
+abbrev pub IsGone : List Envelope → List Entry → ℕ → Id → ℕ → Type 0
 IsGone sent log n o number = WasDropped sent log n o ⊎ (was_lost n o log ≡ true) ⊎ EndsSmall log o number
 
 -- each content that was made at a node is in its store, or is gone
-abbrev pub KeepsMade : List Entry → Whole → Type 0
+abbrev pub KeepsMade : List Entry → ClusterState → Type 0
 KeepsMade log c =
     (n : ℕ) (node : Node) → node_at c n ≡ Some node → (o : Id) (number : ℕ) → IsMadeAt log o number n →
     Stores node.store o number ⊎ IsGone c.network log n o number
 
 -- ---- what is gone stays so
 
--- every letter stays where it is
-abbrev AreStill : List Letter → List Letter → Type 0
-AreStill sent more = (i : ℕ) (l : Letter) → item_at sent i ≡ Some l → item_at more i ≡ Some l
+-- every envelope stays where it is
+abbrev AreStill : List Envelope → List Envelope → Type 0
+AreStill sent more = (i : ℕ) (l : Envelope) → item_at sent i ≡ Some l → item_at more i ≡ Some l
 
-module _ (sent more : List Letter) (still : AreStill sent more) where
-  letters_still : (i : ℕ) (l : Letter) → Among l (letters_by (item_at sent i)) → Among l (letters_by (item_at more i))
-  letters_still i l = by_letter (item_at sent i) refl
+module _ (sent more : List Envelope) (still : AreStill sent more) where
+  envelopes_still : (i : ℕ) (l : Envelope) → Among l (envelopes_by (item_at sent i)) → Among l (envelopes_by (item_at more i))
+  envelopes_still i l = by_envelope (item_at sent i) refl
     where
-      by_letter : (x : Option Letter) → item_at sent i ≡ x → Among l (letters_by x) → Among l (letters_by (item_at more i))
-      by_letter None e h = absurd (among-nothing l h)
-      by_letter (Some u) e h = subst (λ x. Among l (letters_by x)) (sym (still i u e)) h
+      by_envelope : (x : Option Envelope) → item_at sent i ≡ x → Among l (envelopes_by x) → Among l (envelopes_by (item_at more i))
+      by_envelope None e h = absurd (among-nothing l h)
+      by_envelope (Some u) e h = subst (λ x. Among l (envelopes_by x)) (sym (still i u e)) h
 
-  brought_still : (e : Event) (l : Letter) → Among l (delivered_in sent e) → Among l (delivered_in more e)
-  brought_still (Deliver i) l h = letters_still i l h
+  brought_still : (e : Event) (l : Envelope) → Among l (delivered_in sent e) → Among l (delivered_in more e)
+  brought_still (Deliver i) l h = envelopes_still i l h
   brought_still (Claim w) l h = h
   brought_still (Commit j) l h = h
   brought_still (Tick w) l h = h
@@ -98,7 +98,7 @@ module _ (sent more : List Letter) (still : AreStill sent more) where
     accepted_still : (e : Event) → Among e (accepted_events log) → Among e (accepted_events (log ++ es))
     accepted_still e h = subst (λ xs. Among e xs) (sym (accepted-append log es unrefused)) (among-more (accepted_events log) (accepted_events es) e h)
 
-    came_still : (l : Letter) → Among l (came_by sent log) → Among l (came_by more (log ++ es))
+    came_still : (l : Envelope) → Among l (came_by sent log) → Among l (came_by more (log ++ es))
     came_still l h =
         let r = flat_among (delivered_in sent) (accepted_events log) l h in
         among_flat (delivered_in more) (accepted_events (log ++ es)) r.0 l (accepted_still r.0 r.1) (brought_still r.0 l r.2)
@@ -123,7 +123,7 @@ module _ (sent more : List Letter) (still : AreStill sent more) where
         )
 
     gone_still : (n : ℕ) (o : Id) (number : ℕ) → IsGone sent log n o number → IsGone more (log ++ es) n o number
-    gone_still n o number (inl (from, e, why, h)) = inl (from, e, why, came_still (letter from (TheNode n) (Unhold e o why)) h)
+    gone_still n o number (inl (from, e, why, h)) = inl (from, e, why, came_still (envelope from (TheNode n) (Unhold e o why)) h)
     gone_still n o number (inr (inl lost)) = inr (inl (lost_still n o lost))
     gone_still n o number (inr (inr small)) = inr (inr (small_still o number small))
 
@@ -141,20 +141,20 @@ taken_lost n o log later accepted = ap (list_any (loses n o)) accepted ∙ list_
     or_true true = refl
     or_true false = refl
 
-taken_gone : (sent more : List Letter) → AreStill sent more → (log later : List Entry) (e : Event) → accepted_events later ≡ accepted_events log ++ e ∷ [] →
+taken_gone : (sent more : List Envelope) → AreStill sent more → (log later : List Entry) (e : Event) → accepted_events later ≡ accepted_events log ++ e ∷ [] →
     (n : ℕ) (o : Id) (number : ℕ) → TakesCopies sent e n o → IsGone more later n o number
 taken_gone sent more still log later e accepted n o number (inl (i, from, x, why, is, at)) =
-    let l : Letter = letter from (TheNode n) (Unhold x o why) in
+    let l : Envelope = envelope from (TheNode n) (Unhold x o why) in
     let event : Among (Deliver i) (accepted_events later) =
     subst (λ xs. Among (Deliver i) xs) (sym accepted) (among-behind (accepted_events log) (e ∷ []) (Deliver i) (zero, ap (λ y. Some y) is)) in
-    let brought : Among l (delivered_in more (Deliver i)) = subst (λ y. Among l (letters_by y)) (sym (still i l at)) (zero, refl) in
+    let brought : Among l (delivered_in more (Deliver i)) = subst (λ y. Among l (envelopes_by y)) (sym (still i l at)) (zero, refl) in
     inl (from, x, why, among_flat (delivered_in more) (accepted_events later) (Deliver i) l event brought)
 taken_gone sent more still log later e accepted n o number (inr is) =
     inr (inl (taken_lost n o log later (subst (λ x. accepted_events later ≡ accepted_events log ++ x ∷ []) is accepted)))
 
 -- ---- an event
 
-module _ (s : Setting) (log : List Entry) (c : Whole) (b : Between s log c) where
+module _ (s : Setting) (log : List Entry) (c : ClusterState) (b : Between s log c) where
   same_place : (m n : ℕ) → ◌≡◌ {A = Option ℕ} (Some m) (Some n) → m ≡ n
   same_place m n e = cc
 
@@ -171,14 +171,14 @@ module _ (s : Setting) (log : List Entry) (c : Whole) (b : Between s log c) wher
   made_there o number n (inl p) = has_room o.owner n p.home
   made_there o number n (inr p) = has_room p.worker n p.home
 
-  module _ (k : KeepsMade log c) (e : Event) (seat : ℕ) (m : Moved) (network : m.whole.network ≡ c.network ++ m.out.letters)
+  module _ (k : KeepsMade log c) (e : Event) (seat : ℕ) (m : Transition) (network : m.whole.network ≡ c.network ++ m.out.envelopes)
       (accepted : accepted_events (log ++ In e seat ∷ m.out.entries) ≡ accepted_events log ++ e ∷ [])
       (makes : Makes c (log ++ In e seat ∷ m.out.entries) e m) (after : Sane (log ++ In e seat ∷ m.out.entries)) where
     abbrev later : List Entry
     later = log ++ In e seat ∷ m.out.entries
 
     still : AreStill c.network m.whole.network
-    still i l at = ap (λ ls. item_at ls i) network ∙ there_more c.network m.out.letters i l at
+    still i l at = ap (λ ls. item_at ls i) network ∙ there_more c.network m.out.envelopes i l at
 
     old_stays : (n : ℕ) (node : Node) → node_at m.whole n ≡ Some node → (o : Id) (number : ℕ) → IsMadeAt log o number n →
         Stores node.store o number ⊎ IsGone m.whole.network later n o number
@@ -238,13 +238,13 @@ module _ (s : Setting) (log : List Entry) (c : Whole) (b : Between s log c) wher
     ]
 
 -- accepted or refused
-module _ (s : Setting) (log : List Entry) (c : Whole) (before : IsInStep s log c) (k : KeepsMade log c) (e : Event) (seat : ℕ) (handed : Handed) where
+module _ (s : Setting) (log : List Entry) (c : ClusterState) (before : IsInStep s log c) (k : KeepsMade log c) (e : Event) (seat : ℕ) (handed : CommitInput) where
   abbrev Kept : Answer → Type 0
   Kept a = Sane (log ++ logged e seat a) → KeepsMade (log ++ logged e seat a) (whole_after c a)
 
   taken_made : refusal c e handed ≡ None → Kept (takes (happens c e handed) (given_out c e))
   taken_made unrefused after =
-      let m : Moved = happens c e handed in
+      let m : Transition = happens c e handed in
       let q = (happens-counted c e handed).quiet in
       still_made s log c before.sound.between k e seat m (happens_network c e handed)
       (accepted-event log e seat m.out.entries (no_event m.out.entries q) ∙ ap (λ t. accepted_events log ++ (if t then [] else e ∷ [])) (not_refused m.out.entries q))

@@ -17,10 +17,10 @@ use Rattle.event_log.specs.Rules.{Setting}
 use Rattle.event_log.specs.Sane.{Sane}
 use Rattle.event_log.specs.Words.{attempt, births, born_in, ended_in, ends_of, main_bearing, run_in, runs_of, worker_of}
 use Rattle.event_log.proofs.SaneLaws.{legal_logs_are_sane}
-use Rattle.protocol.specs.Whole.{Whole}
+use Rattle.protocol.specs.Cluster.{ClusterState}
 use Rattle.owed_asks.specs.of_protocol_legal.Made.{EndsSmall, IsEndedAt, IsMadeAt, IsPutAt}
 use Rattle.owed_asks.specs.of_protocol_legal.Whole.{Between, setting_of}
-use Rattle.protocol_owed.proofs.Letters.{among-append_cases, among-nothing}
+use Rattle.protocol_owed.proofs.Envelopes.{among-append_cases, among-nothing}
 use Rattle.owed_replies.proofs.Advancing.{flat_among}
 use Rattle.owed_replies.proofs.Contents.{ended_entry}
 use Rattle.owed_laws.proofs.MadeCopies.{IsNewEnd, IsNewPut}
@@ -72,7 +72,7 @@ pub runs_more : (log : List Entry) (e : Event) (seat : ℕ) (es : List Entry) (a
 runs_more log e seat es a w runs = ap (λ xs. slice_get xs a.number) (flat_map-append (run_in a.object) log (In e seat ∷ es)) ∙
     slice_get-append (runs_of a.object log) (flat_map (run_in a.object) (In e seat ∷ es)) a.number w runs
 
-module _ (s : Setting) (log : List Entry) (c : Whole) (b : Between s log c) (e : Event) (seat : ℕ) (es : List Entry) (after : Sane (log ++ In e seat ∷ es)) where
+module _ (s : Setting) (log : List Entry) (c : ClusterState) (b : Between s log c) (e : Event) (seat : ℕ) (es : List Entry) (after : Sane (log ++ In e seat ∷ es)) where
   abbrev later : List Entry
   later = log ++ In e seat ∷ es
 

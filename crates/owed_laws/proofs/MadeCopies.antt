@@ -8,10 +8,10 @@ use Rattle.values.specs.Cells.{is_small}
 use Rattle.event_log.specs.Breaks.{Among}
 use Rattle.event_log.specs.Entries.{Accepted, Attempt, Begun, Born, Ended, Entry, Faulted, Got, In, Opened, Printed, Refused, Released, Resolved}
 use Rattle.event_log.specs.Words.{attempt}
-use Rattle.protocol.specs.Nodes.{There}
-use Rattle.protocol.specs.Steps.{Here}
+use Rattle.protocol.specs.Nodes.{NodeContext}
+use Rattle.protocol.specs.Steps.{WorkerContext}
 use Rattle.protocol.specs.Stores.{Store}
-use Rattle.protocol_owed.proofs.Letters.{among-append_cases}
+use Rattle.protocol_owed.proofs.Envelopes.{among-append_cases}
 use Rattle.smallest_steps.proofs.SlotMoves as S
 use Rattle.owed_laws.proofs.StoreMoves.{IsKept, Stores, is_mute, is_quiet}
 
@@ -80,12 +80,12 @@ opened_makes_none w n x (suc k, e) = absurd (cc)
 
 -- so far each of those primary copies is there, and nothing was made but as those entries say
 module _ (before : Store) (made : List Entry) where
-  pub record StaysThere (t : There) : Type 0 where
+  pub record StaysThere (t : NodeContext) : Type 0 where
     pub copies : (o : Id) (n : ℕ) → Stores before o n → Stores t.node.store o n
     pub puts : (o : Id) (n : ℕ) → IsNewPut t.out.entries o n → IsNewPut made o n
     pub ends : (first o : Id) (n : ℕ) → IsNewEnd t.out.entries first o n → IsNewEnd made first o n
 
-  abbrev pub Stays : Here → Type 0
+  abbrev pub Stays : WorkerContext → Type 0
   Stays h = StaysThere h.there
 
   pub there_stays : S.KeepsSlots StaysThere

@@ -19,17 +19,17 @@ use Rattle.protocol.specs.Answers.{Step, Takes, decided}
 use Rattle.protocol.specs.Commits.{keeps_content, keeps_contents, asks_where, commit_by, commit_step, ends, rests_if_waiting, stops_by, with_outcomes}
 use Rattle.protocol.specs.Events.{objects_made, committed_by, happens, is_live_worker, with_committed}
 use Rattle.protocol.specs.Holders.{holds_ids, passes_on}
-use Rattle.protocol.specs.Jobs.{AtEnd, AtGet, Given, Handed, Nothing, OfAnother, OfJob, Outcomes, Stopped}
-use Rattle.protocol.specs.Messages.{Fetch, TheNode, TheWorker, letter}
+use Rattle.protocol.specs.Jobs.{AtEnd, AtGet, JobRecord, CommitInput, Nothing, OfAnother, OfJob, Outcomes, Stopped}
+use Rattle.protocol.specs.Messages.{Fetch, TheNode, TheWorker, envelope}
 use Rattle.protocol.specs.Numbered.{changed_at, item_at}
 use Rattle.protocol.specs.Refusals.{commit_refusal, is_out_by, refusal, unless}
 use Rattle.protocol.specs.Releases.{release_step}
 use Rattle.protocol.specs.Runs.{gives_slot_back, is_heard, leaves, leaves_by, tells, tells_stop}
 use Rattle.protocol.specs.Sets.{is_empty, repeated}
 use Rattle.protocol.specs.Stores.{with_ended}
-use Rattle.protocol.specs.Steps.{Here, store_here, with_phase, with_run, with_store}
-use Rattle.protocol.specs.Tables.{HasEnded, Out, Ready, Run, Waits, Worker, has_stopped, is_waiting_for, knows_dead, needed_by, new_worker, object_needed, owner_of}
-use Rattle.protocol.specs.Whole.{Moved, Whole, after_worker, worker_at, worker_does_at, worker_does_by}
+use Rattle.protocol.specs.Steps.{WorkerContext, store_here, with_phase, with_run, with_store}
+use Rattle.protocol.specs.Tables.{HasEnded, Out, Ready, Execution, Waits, Worker, has_stopped, is_waiting_for, knows_dead, needed_by, new_worker, object_needed, owner_of}
+use Rattle.protocol.specs.Cluster.{Transition, ClusterState, after_worker, worker_at, worker_does_at, worker_does_by}
 use Rattle.owed_asks.specs.of_protocol_laws.Coming.{IsRight}
 use Rattle.owed_asks.specs.of_protocol_laws.Sound.{IsSound}
 use Rattle.owed_asks.proofs.of_protocol_laws.Tests.{live_worker, or_none, out_run, unless_none}
@@ -39,7 +39,7 @@ use Rattle.owed_asks.proofs.of_protocol_legal.Bearing.{still_holds}
 use Rattle.protocol_owed.specs.Replies.{NewWaitIsTended, NewWaitsAreTended, NewlyWaits, SaysFetch}
 use Rattle.protocol_owed.specs.Runs.{Handing, Running, after_event, after_events, answer_to, opening_run}
 use Rattle.protocol_owed.specs.Seen.{IsCalm}
-use Rattle.protocol_owed.proofs.Letters.{among-append_cases, among-more}
+use Rattle.protocol_owed.proofs.Envelopes.{among-append_cases, among-more}
 use Rattle.protocol_owed.proofs.Moves.{IsKept, asks_where-kept, release_step-kept, rests_if_waiting-kept}
 use Rattle.protocol_owed.proofs.NodeMoves.{IsKeptThere, asks_slot-kept, frees-kept}
 use Rattle.protocol_owed.proofs.Nodes.{there_more}
@@ -95,10 +95,10 @@ begins_stays es = record {
 
 -- ---- an attempt that ends waits for nothing
 
-abbrev NeedsNothing : Here → Type 0
+abbrev NeedsNothing : WorkerContext → Type 0
 NeedsNothing h = needed_by h.worker.run ≡ None
 
-leaves_nothing : (h : Here) (run : Run) (c : List Outcome) → run.phase ≡ HasEnded c → NeedsNothing (leaves h run)
+leaves_nothing : (h : WorkerContext) (run : Execution) (c : List Outcome) → run.phase ≡ HasEnded c → NeedsNothing (leaves h run)
 leaves_nothing h run c ended =
     at_test (λ t. NeedsNothing (if t then with_run h (record run { is_acknowledged = true }) else if knows_dead h.worker (owner_of run) then is_heard (tells h run) run else tells h run))
     (same_attempt run.attempt main_attempt) (λ _. none)
@@ -108,33 +108,33 @@ leaves_nothing h run c ended =
     none : object_needed run.phase ≡ None
     none = ap object_needed ended
 
-module _ (b : Here) (run : Run) (c : List Outcome) where
+module _ (b : WorkerContext) (run : Execution) (c : List Outcome) where
   -- the attempt as it ends, with the Holds that wait
-  abbrev Ends : Here → Type 0
-  Ends h = (run : Run) × (h.worker.run ≡ Some run) × (run.phase ≡ HasEnded c)
+  abbrev Ends : WorkerContext → Type 0
+  Ends h = (run : Execution) × (h.worker.run ≡ Some run) × (run.phase ≡ HasEnded c)
 
-  held_ends : (h : Here) (e : Id) (os : List Id) → Ends h → Ends (holds_ids h e os)
+  held_ends : (h : WorkerContext) (e : Id) (os : List Id) → Ends h → Ends (holds_ids h e os)
   held_ends h e os (last, is, ended) =
       let s = still_holds h.me h.worker.node (length h.worker.objects) last e h os (record { me = refl; node = refl; count = refl; holds = last.holds; runs = is }) in
       (record last { holds = s.holds }, s.runs, ended)
 
-  contents_end : (cs : List Outcome) (h : Here) (o : Id) (number : ℕ) → Ends h → Ends (keeps_contents h o number cs)
+  contents_end : (cs : List Outcome) (h : WorkerContext) (o : Id) (number : ℕ) → Ends h → Ends (keeps_contents h o number cs)
   contents_end [] h o number p = p
   contents_end (d ∷ cs) h o number p =
       contents_end cs (keeps_content h o number d) (next_id o) number
       (held_ends (passes_on (with_store h (with_ended (store_here h) o number d)) o (each_once (ids_in_outcome d))) o (each_once (ids_in_outcome d)) p)
 
-  abbrev held : Here
+  abbrev held : WorkerContext
   held = keeps_contents (with_phase b run (HasEnded c)) run.attempt.object run.attempt.number c
 
   still : Ends held
   still = contents_end c (with_phase b run (HasEnded c)) run.attempt.object run.attempt.number (record run { phase = HasEnded c }, refl, refl)
 
-  by_run : (h : Here) (r : Option Run) → h.worker.run ≡ r → (last : Run) → r ≡ Some last → last.phase ≡ HasEnded c → NeedsNothing (leaves_by h r)
+  by_run : (h : WorkerContext) (r : Option Execution) → h.worker.run ≡ r → (last : Execution) → r ≡ Some last → last.phase ≡ HasEnded c → NeedsNothing (leaves_by h r)
   by_run h None e last f g = absurd (cc)
   by_run h (Some next) e last f g =
       let same : next ≡ last = cc in
-      let ended : next.phase ≡ HasEnded c = ap (λ (i : Run). i.phase) same ∙ g in
+      let ended : next.phase ≡ HasEnded c = ap (λ (i : Execution). i.phase) same ∙ g in
       at_test (λ t. NeedsNothing (if t then leaves h (record next { is_over = true }) else h)) (has_stopped next.phase && not next.is_over && is_empty next.holds)
       (λ _. leaves_nothing h (record next { is_over = true }) c ended) (λ _. ap needed_by e ∙ ap object_needed ended)
 
@@ -144,21 +144,21 @@ module _ (b : Here) (run : Run) (c : List Outcome) where
 -- ---- a commit that was taken
 
 -- the job's worker lives and its attempt is out as it
-record IsCommit (c : Whole) (j w : ℕ) (handed : Handed) : Type 0 where
-  given : Given
+record IsCommit (c : ClusterState) (j w : ℕ) (handed : CommitInput) : Type 0 where
+  given : JobRecord
   at : item_at c.jobs j ≡ Some given
   same : given.worker ≡ w
   fresh : given.is_committed ≡ false
   worker : Worker
   there : worker_at c given.worker ≡ Some worker
   lives : worker.is_live ≡ true
-  run : Run
+  run : Execution
   runs : worker.run ≡ Some run
   out : run.phase ≡ Out j
   outcomes : Outcomes
   of_job : handed ≡ OfJob outcomes
 
-commit_there : (c : Whole) (j w : ℕ) (handed : Handed) (g : Given) → item_at c.jobs j ≡ Some g → g.worker ≡ w → refusal c (Commit j) handed ≡ None → IsCommit c j w handed
+commit_there : (c : ClusterState) (j w : ℕ) (handed : CommitInput) (g : JobRecord) → item_at c.jobs j ≡ Some g → g.worker ≡ w → refusal c (Commit j) handed ≡ None → IsCommit c j w handed
 commit_there c j w handed g at same unrefused = go handed refl (ap (commit_refusal c j handed) (sym at) ∙ unrefused)
   where
     never : false ≡ true → ⊥
@@ -167,7 +167,7 @@ commit_there c j w handed g at same unrefused = go handed refl (ap (commit_refus
     nothing : not g.is_committed && false ≡ true → ⊥
     nothing q = never (and_parts (not g.is_committed) false q).1
 
-    go : (i : Handed) → handed ≡ i → commit_refusal c j i (Some g) ≡ None → IsCommit c j w handed
+    go : (i : CommitInput) → handed ≡ i → commit_refusal c j i (Some g) ≡ None → IsCommit c j w handed
     go Nothing e h = absurd (nothing (and_parts (not g.is_committed && false) (is_out_by (worker_at c g.worker) j) (unless_none _ NoJob (or_none _ _ h).0)).0)
     go OfAnother e h = absurd (nothing (and_parts (not g.is_committed && false) (is_out_by (worker_at c g.worker) j) (unless_none _ NoJob (or_none _ _ h).0)).0)
     go (OfJob d) e h =
@@ -191,11 +191,11 @@ commit_there c j w handed g at same unrefused = go handed refl (ap (commit_refus
           of_job = e;
         }
 
-from_mapped : (f : Given → ℕ) (xs : List Given) (k w : ℕ) → from_one (map f xs) k ≡ Some w → (x : Given) × (item_at xs k ≡ Some x) × (w ≡ f x)
+from_mapped : (f : JobRecord → ℕ) (xs : List JobRecord) (k w : ℕ) → from_one (map f xs) k ≡ Some w → (x : JobRecord) × (item_at xs k ≡ Some x) × (w ≡ f x)
 from_mapped f xs zero w e = absurd (cc)
 from_mapped f xs (suc i) w e = item_mapped f xs (suc i) w e
 
-unrefused_so : (c : Whole) (e : Event) (handed : Handed) (step : Step) (code : Option Refusal) → decided c e handed code ≡ Takes step → code ≡ None
+unrefused_so : (c : ClusterState) (e : Event) (handed : CommitInput) (step : Step) (code : Option Refusal) → decided c e handed code ≡ Takes step → code ≡ None
 unrefused_so c e handed step None f = refl
 unrefused_so c e handed step (Some code) f = absurd (cc)
 
@@ -204,7 +204,7 @@ module _ (s : Setting) (slots : ℕ) (some : 0 < s.nodes) (slot : 1 ≤ slots) (
   abbrev r : Running
   r = after_events (opening_run s.nodes slots) gs
 
-  abbrev c : Whole
+  abbrev c : ClusterState
   c = r.whole
 
   keeps : RunKeeps s r
@@ -218,8 +218,8 @@ module _ (s : Setting) (slots : ℕ) (some : 0 < s.nodes) (slot : 1 ≤ slots) (
     x : IsWaitingHere (after_event r g).whole w a y
     x = waits_for s (after_event r g) next.step w a y new.waits
 
-    job : (i : Given) × (item_at c.jobs new.job ≡ Some i) × (w ≡ i.worker)
-    job = from_mapped (λ (i : Given). i.worker) c.jobs new.job w (ap (λ ws. from_one ws new.job) (sym keeps.step.sound.between.knows.claims) ∙ new.own)
+    job : (i : JobRecord) × (item_at c.jobs new.job ≡ Some i) × (w ≡ i.worker)
+    job = from_mapped (λ (i : JobRecord). i.worker) c.jobs new.job w (ap (λ ws. from_one ws new.job) (sym keeps.step.sound.between.knows.claims) ∙ new.own)
 
     k : IsCommit c new.job w g.handed
     k = commit_there c new.job w g.handed job.0 job.1 (sym job.2)
@@ -231,13 +231,13 @@ module _ (s : Setting) (slots : ℕ) (some : 0 < s.nodes) (slot : 1 ≤ slots) (
     done : IsTrue (setting_of s c) k.run k.outcomes
     done = (subst (λ e. IsRight s c e (OfJob k.outcomes)) new.commit (subst (λ i. IsRight s c g.event i) k.of_job is)) k.given k.worker k.run k.at k.there k.runs k.out
 
-    abbrev start : Here
+    abbrev start : WorkerContext
     start = W.start s apart r.log c keeps.step.sound before new.job g.seat k.outcomes k.given k.at k.fresh k.worker k.there k.lives k.run k.runs k.out done
 
-    abbrev end : Here
+    abbrev end : WorkerContext
     end = release_step (commit_step start k.outcomes)
 
-    abbrev d : Whole
+    abbrev d : ClusterState
     d = with_committed c new.job (objects_made k.outcomes.births)
 
     made : happens c g.event g.handed ≡ after_worker d k.given.worker k.worker.node end
@@ -251,10 +251,10 @@ module _ (s : Setting) (slots : ℕ) (some : 0 < s.nodes) (slot : 1 ≤ slots) (
     took = is_taken c g.event g.handed step taken
 
     entries : step.entries ≡ end.there.out.entries
-    entries = took.entries ∙ ap (λ (m : Moved). m.out.entries) made
+    entries = took.entries ∙ ap (λ (m : Transition). m.out.entries) made
 
-    letters : step.letters ≡ end.there.out.letters
-    letters = took.letters ∙ ap (λ (m : Moved). m.out.letters) made
+    envelopes : step.envelopes ≡ end.there.out.envelopes
+    envelopes = took.envelopes ∙ ap (λ (m : Transition). m.out.envelopes) made
 
     log_then : (after_event r g).log ≡ r.log ++ In (Commit new.job) g.seat ∷ end.there.out.entries
     log_then = last_log r g step taken ∙ ap (λ e. r.log ++ In e g.seat ∷ step.entries) new.commit ∙ ap (λ es. r.log ++ In (Commit new.job) g.seat ∷ es) entries
@@ -264,7 +264,7 @@ module _ (s : Setting) (slots : ℕ) (some : 0 < s.nodes) (slot : 1 ≤ slots) (
 
     worker_then : x.worker ≡ end.worker
     worker_then = same_worker x.worker end.worker
-        (sym x.there ∙ ap (λ m. worker_at m w) (last_whole r g step taken ∙ took.whole) ∙ ap (λ (m : Moved). worker_at m.whole w) made ∙
+        (sym x.there ∙ ap (λ m. worker_at m w) (last_whole r g step taken ∙ took.whole) ∙ ap (λ (m : Transition). worker_at m.whole w) made ∙
         ap (λ v. worker_at (after_worker d k.given.worker k.worker.node end).whole v) (sym k.same) ∙
         there_more (changed_at c.workers k.given.worker (λ _. end.worker)) (repeated end.there.opened (new_worker k.worker.node)) k.given.worker end.worker
         (changed_now c.workers k.given.worker k.worker end.worker k.there))
@@ -279,8 +279,8 @@ module _ (s : Setting) (slots : ℕ) (some : 0 < s.nodes) (slot : 1 ≤ slots) (
     not_on : GoesOnHere end → ⊥
     not_on (last, e, ready) = clash last x.run (sym e ∙ run_then) ready x.waits
       where
-        clash : (p q : Run) → ◌≡◌ {A = Option Run} (Some p) (Some q) → p.phase ≡ Ready → q.phase ≡ Waits y x.fetching → ⊥
-        clash p q i ready waits = let same : p ≡ q = cc in let f : Ready ≡ Waits y x.fetching = sym ready ∙ ap (λ (z : Run). z.phase) same ∙ waits in absurd (cc)
+        clash : (p q : Execution) → ◌≡◌ {A = Option Execution} (Some p) (Some q) → p.phase ≡ Ready → q.phase ≡ Waits y x.fetching → ⊥
+        clash p q i ready waits = let same : p ≡ q = cc in let f : Ready ≡ Waits y x.fetching = sym ready ∙ ap (λ (z : Execution). z.phase) same ∙ waits in absurd (cc)
 
     -- the job stopped at this need
     stop_is : k.outcomes.stop ≡ AtGet y
@@ -291,8 +291,8 @@ module _ (s : Setting) (slots : ℕ) (some : 0 < s.nodes) (slot : 1 ≤ slots) (
 
         by_stop : (t : Stopped) → k.outcomes.stop ≡ t → k.outcomes.stop ≡ AtGet y
         by_stop (AtGet z) e =
-            let mid : Here = W.mid s apart r.log c keeps.step.sound before new.job g.seat k.outcomes k.given k.at k.fresh k.worker k.there k.lives k.run k.runs k.out done z e in
-            let asked : Here = asks_where mid z in
+            let mid : WorkerContext = W.mid s apart r.log c keeps.step.sound before new.job g.seat k.outcomes k.given k.at k.fresh k.worker k.there k.lives k.run k.runs k.out done z e in
+            let asked : WorkerContext = asks_where mid z in
             let only : WaitsOnly z asked = asks_where-waits z mid (λ i f. same z i f) in
             let rested : WaitsOnly z (rests_if_waiting asked z) =
             at_test (λ t. WaitsOnly z (if t then gives_slot_back asked else asked)) (is_waiting_for asked.worker z) (λ _. only) (λ _. only) in
@@ -326,7 +326,7 @@ module _ (s : Setting) (slots : ℕ) (some : 0 < s.nodes) (slot : 1 ≤ slots) (
     -- the log goes on from there
     on_from : (more : List Entry) × ((after_event r g).log ≡ log_mid ++ more)
     on_from =
-        let mid : Here = W.mid s apart r.log c keeps.step.sound before new.job g.seat k.outcomes k.given k.at k.fresh k.worker k.there k.lives k.run k.runs k.out done y stop_is in
+        let mid : WorkerContext = W.mid s apart r.log c keeps.step.sound before new.job g.seat k.outcomes k.given k.at k.fresh k.worker k.there k.lives k.run k.runs k.out done y stop_is in
         let kept = begins_stays es_mid in
         let asked : Begins es_mid (asks_where mid y).there.out.entries =
         asks_where-kept (λ h. Begins es_mid h.there.out.entries) kept mid y ([], sym (append-nil es_mid)) in
@@ -388,8 +388,8 @@ module _ (s : Setting) (slots : ℕ) (some : 0 < s.nodes) (slot : 1 ≤ slots) (
       | inr (n, m, sent) ↦ (
         n,
         m,
-        subst (λ v. Among (letter (TheWorker v) (TheNode n) (Fetch y m)) step.letters) k.same
-            (subst (λ ls. Among (letter (TheWorker k.given.worker) (TheNode n) (Fetch y m)) ls) (sym letters) sent),
+        subst (λ v. Among (envelope (TheWorker v) (TheNode n) (Fetch y m)) step.envelopes) k.same
+            (subst (λ ls. Among (envelope (TheWorker k.given.worker) (TheNode n) (Fetch y m)) ls) (sym envelopes) sent),
       )
     ]
 

@@ -8,56 +8,56 @@ use Rattle.meaning.proofs.BirthLaws.{at_test}
 use Rattle.meaning.specs.Values.{Id, Outcome}
 use Rattle.event_log.specs.Entries.{OwnerDied}
 use Rattle.protocol.specs.Commits.{asks_where, rests_if_waiting}
-use Rattle.protocol.specs.Messages.{Fetch, TheNode, TheWorker, Where, letter}
+use Rattle.protocol.specs.Messages.{Fetch, TheNode, TheWorker, Where, envelope}
 use Rattle.protocol.specs.Places.{looks_elsewhere, looks_elsewhere_by, looks_for, looks_for_by, looks_here_by, needs_at, needs_by, needs_own, needs_released}
 use Rattle.protocol.specs.Recovery.{recovers}
 use Rattle.protocol.specs.Releases.{release_step}
 use Rattle.protocol.specs.Runs.{faults, gives_slot_back, with_answer}
 use Rattle.protocol.specs.Sets.{fault, has, is_empty, without_number}
 use Rattle.protocol.specs.Stores.{copy_in}
-use Rattle.protocol.specs.Steps.{Here, changes, is_own, object_at, says, store_here, with_phase}
-use Rattle.protocol.specs.Tables.{Object, Ready, Run, Waits, has_content, is_lost, is_waiting_for, knows_dead, settled_number, without_place}
-use Rattle.protocol_owed.proofs.Letters.{among-last}
+use Rattle.protocol.specs.Steps.{WorkerContext, changes, is_own, object_at, says, store_here, with_phase}
+use Rattle.protocol.specs.Tables.{Object, Ready, Execution, Waits, has_content, is_lost, is_waiting_for, knows_dead, settled_number, without_place}
+use Rattle.protocol_owed.proofs.Envelopes.{among-last}
 use Rattle.protocol_owed.proofs.Moves.{rests_if_waiting-kept}
 use Rattle.protocol_owed.proofs.Replying.{Sent, sent_after, sent_stays}
 use Rattle.owed_asks.proofs.of_protocol_legal.Needing.{has_without}
 use Rattle.owed_replies.proofs.Committing.{release_step-run}
 
 -- the attempt goes on
-abbrev pub GoesOnHere : Here → Type 0
-GoesOnHere g = (next : Run) × (g.worker.run ≡ Some next) × (next.phase ≡ Ready)
+abbrev pub GoesOnHere : WorkerContext → Type 0
+GoesOnHere g = (next : Execution) × (g.worker.run ≡ Some next) × (next.phase ≡ Ready)
 
 -- it fetches the object from some node
-abbrev pub Fetches : ℕ → Id → Here → Type 0
-Fetches me y g = (n number : ℕ) × Sent (letter (TheWorker me) (TheNode n) (Fetch y number)) g
+abbrev pub Fetches : ℕ → Id → WorkerContext → Type 0
+Fetches me y g = (n number : ℕ) × Sent (envelope (TheWorker me) (TheNode n) (Fetch y number)) g
 
-abbrev pub IsServed : ℕ → Id → Here → Type 0
+abbrev pub IsServed : ℕ → Id → WorkerContext → Type 0
 IsServed me y g = GoesOnHere g ⊎ Fetches me y g
 
 -- where a place is listed, none of which is known dead, it fetches
-elsewhere : (g : Here) (run : Run) (y : Id) (x : Object) → g.worker.dead_nodes ≡ [] → is_empty x.places ≡ false →
+elsewhere : (g : WorkerContext) (run : Execution) (y : Id) (x : Object) → g.worker.dead_nodes ≡ [] → is_empty x.places ≡ false →
     Fetches g.me y (looks_elsewhere (with_phase g run (Waits y None)) y x)
 elsewhere g run y x no_dead some =
-    let h : Here = with_phase g run (Waits y None) in
+    let h : WorkerContext = with_phase g run (Waits y None) in
     let first = found x.places some in
     subst (λ o. Fetches g.me y (looks_elsewhere_by h y x o)) (sym (ap (λ ds. find (λ i. not (has ds i)) x.places) no_dead ∙ first.1))
-    (first.0, settled_number x, among-last g.there.out.letters (letter (TheWorker g.me) (TheNode first.0) (Fetch y (settled_number x))))
+    (first.0, settled_number x, among-last g.there.out.envelopes (envelope (TheWorker g.me) (TheNode first.0) (Fetch y (settled_number x))))
   where
     found : (ns : List ℕ) → is_empty ns ≡ false → (m : ℕ) × (find (λ i. not (has [] i)) ns ≡ Some m)
     found [] e = absurd (cc)
     found (m ∷ ns) e = (m, refl)
 
-module _ (g : Here) (run : Run) (y : Id) (z : Object) (number n : ℕ) (item : object_at g y ≡ Some z) (unfaulted : z.fault ≡ None) (whole : has_content z ≡ true)
+module _ (g : WorkerContext) (run : Execution) (y : Id) (z : Object) (number n : ℕ) (item : object_at g y ≡ Some z) (unfaulted : z.fault ≡ None) (whole : has_content z ≡ true)
     (number_is : settled_number z ≡ number) (place : z.kept ≡ None → has z.places n ≡ true) (no_dead : g.worker.dead_nodes ≡ [])
     (stored : z.kept ≡ None → n ≡ g.worker.node → (d : Outcome) × (copy_in (store_here g) y number ≡ Some d)) where
-  abbrev h : Here
+  abbrev h : WorkerContext
   h = with_phase g run (Waits y None)
 
   some_place : (ns : List ℕ) → has ns n ≡ true → is_empty ns ≡ false
   some_place [] e = absurd (cc)
   some_place (m ∷ ns) e = refl
 
-  looked : (P : Here → Type 0) → P (looks_for h y z) → P (needs_own h y)
+  looked : (P : WorkerContext → Type 0) → P (looks_for h y z) → P (needs_own h y)
   looked P p =
       subst (λ o. P (needs_at h y o)) (sym item)
       (subst (λ o. P (needs_by h y z o)) (sym unfaulted)
@@ -111,17 +111,17 @@ module _ (g : Here) (run : Run) (y : Id) (z : Object) (number n : ℕ) (item : o
 -- ---- to the end of the event
 
 -- an own need is looked for
-pub own_where : (P : Here → Type 0) (h : Here) (y : Id) → is_own h y ≡ true → P (needs_own h y) → P (asks_where h y)
+pub own_where : (P : WorkerContext → Type 0) (h : WorkerContext) (y : Id) → is_own h y ≡ true → P (needs_own h y) → P (asks_where h y)
 own_where P h y own p =
     subst (λ t. P (if t then needs_own h y else if knows_dead h.worker y.owner then faults h (fault OwnerDied y) else says h y.owner (Where y))) (sym own) p
 
-pub goes_on_then : (h : Here) (y : Id) → GoesOnHere h → GoesOnHere (release_step (rests_if_waiting h y))
+pub goes_on_then : (h : WorkerContext) (y : Id) → GoesOnHere h → GoesOnHere (release_step (rests_if_waiting h y))
 goes_on_then h y (next, is, ready) = (next, release_step-run (rests_if_waiting h y) ∙ rested ∙ is, ready)
   where
     rested : (rests_if_waiting h y).worker.run ≡ h.worker.run
     rested = at_test (λ t. (if t then gives_slot_back h else h).worker.run ≡ h.worker.run) (is_waiting_for h.worker y) (λ _. refl) (λ _. refl)
 
-pub fetches_then : (me : ℕ) (h : Here) (y : Id) → Fetches me y h → Fetches me y (release_step (rests_if_waiting h y))
+pub fetches_then : (me : ℕ) (h : WorkerContext) (y : Id) → Fetches me y h → Fetches me y (release_step (rests_if_waiting h y))
 fetches_then me h y (n, number, sent) =
-    let l = letter (TheWorker me) (TheNode n) (Fetch y number) in
+    let l = envelope (TheWorker me) (TheNode n) (Fetch y number) in
     (n, number, sent_after l (rests_if_waiting h y) (rests_if_waiting-kept (Sent l) (sent_stays l) h y sent))

@@ -28,15 +28,15 @@ use Rattle.event_log.proofs.EventLaws.{accepted-event}
 use Rattle.event_log.proofs.SaneLaws.{legal_logs_are_sane}
 use Rattle.protocol.specs.Commits.{asks_where, bears_all, commit_by, commit_step, rests_if_waiting, stops_by, with_outcomes}
 use Rattle.protocol.specs.Events.{with_committed}
-use Rattle.protocol.specs.Jobs.{AtGet, Given, Outcomes, stop_of}
+use Rattle.protocol.specs.Jobs.{AtGet, JobRecord, Outcomes, stop_of}
 use Rattle.protocol.specs.Nodes.{Node}
 use Rattle.protocol.specs.Numbered.{changed_at, item_at}
 use Rattle.protocol.specs.Releases.{release_step}
 use Rattle.protocol.specs.Sets.{has, object_id, repeated}
 use Rattle.protocol.specs.Stores.{Copy, copy_in, is_copy_of}
-use Rattle.protocol.specs.Steps.{Here, logs_all, object_at, store_here, with_phase, with_run}
-use Rattle.protocol.specs.Tables.{Object, Out, Run, Waits, Worker, new_worker}
-use Rattle.protocol.specs.Whole.{Whole, after_worker, here, node_at, worker_at}
+use Rattle.protocol.specs.Steps.{WorkerContext, logs_all, object_at, store_here, with_phase, with_run}
+use Rattle.protocol.specs.Tables.{Object, Out, Execution, Waits, Worker, new_worker}
+use Rattle.protocol.specs.Cluster.{ClusterState, after_worker, here, node_at, worker_at}
 use Rattle.owed_asks.specs.of_protocol_legal.Done.{IsTrue}
 use Rattle.owed_asks.specs.of_protocol_legal.During.{Frame, HearsNoDeath, SoundHere}
 use Rattle.owed_asks.specs.of_protocol_legal.Frame.{Arrives}
@@ -53,7 +53,7 @@ use Rattle.owed_asks.proofs.of_protocol_legal.OnlyMainPrints.{only_main_prints}
 use Rattle.owed_asks.proofs.of_protocol_legal.Runs.{here_runs}
 use Rattle.owed_asks.specs.of_protocol_laws.Sound.{IsSound}
 use Rattle.protocol_owed.specs.Seen.{IsCalm, IsKnownAt, is_failure}
-use Rattle.protocol_owed.proofs.Letters.{among-more}
+use Rattle.protocol_owed.proofs.Envelopes.{among-more}
 use Rattle.protocol_owed.proofs.Nodes.{there_more}
 use Rattle.owed_asks.proofs.of_lease_discipline.Heres.{changed_now}
 use Rattle.owed_asks.proofs.of_lease_discipline.Told.{places}
@@ -69,9 +69,9 @@ found p (x ∷ xs) ys e = first (p x) (found p xs ys) e
     first true rest e = (x, refl)
     first false rest e = rest e
 
-module _ (s : Setting) (apart : KeepsMainApart s.script) (log : List Entry) (c : Whole) (sound : IsSound s log c) (calm : IsCalm log) (j seat : ℕ) (d : Outcomes)
-    (g : Given) (job_at : item_at c.jobs j ≡ Some g) (fresh : g.is_committed ≡ false) (x : Worker) (there : worker_at c g.worker ≡ Some x) (lives : x.is_live ≡ true)
-    (run : Run) (at : x.run ≡ Some run) (out : run.phase ≡ Out j) (done : IsTrue (setting_of s c) run d) where
+module _ (s : Setting) (apart : KeepsMainApart s.script) (log : List Entry) (c : ClusterState) (sound : IsSound s log c) (calm : IsCalm log) (j seat : ℕ) (d : Outcomes)
+    (g : JobRecord) (job_at : item_at c.jobs j ≡ Some g) (fresh : g.is_committed ≡ false) (x : Worker) (there : worker_at c g.worker ≡ Some x) (lives : x.is_live ≡ true)
+    (run : Execution) (at : x.run ≡ Some run) (out : run.phase ≡ Out j) (done : IsTrue (setting_of s c) run d) where
   abbrev pub S : Setting
   S = setting_of s c
 
@@ -87,11 +87,11 @@ module _ (s : Setting) (apart : KeepsMainApart s.script) (log : List Entry) (c :
   abbrev pub f : Frame
   f = frame_of s log c b (Commit j) seat g.worker
 
-  abbrev pub start : Here
+  abbrev pub start : WorkerContext
   start = here c g.worker x home.0
 
   claimed : worker_of_job j log ≡ Some g.worker
-  claimed = ap (λ (ws : List ℕ). from_one ws j) b.knows.claims ∙ from_one_of (λ (i : Given). i.worker) c.jobs j g job_at
+  claimed = ap (λ (ws : List ℕ). from_one ws j) b.knows.claims ∙ from_one_of (λ (i : JobRecord). i.worker) c.jobs j g job_at
 
   taken : St.IsTaken s log c (Commit j) g.worker x home.0
   taken = record {
@@ -134,11 +134,11 @@ module _ (s : Setting) (apart : KeepsMainApart s.script) (log : List Entry) (c :
     };
   }
 
-  abbrev pub logged : Here
+  abbrev pub logged : WorkerContext
   logged = logs_all (with_run start (with_outcomes run d))
       (commit_entries run.attempt (object_id g.worker (length x.objects + 1)) d.births d.prints (stop_of d.stop))
 
-  abbrev pub borne : Here
+  abbrev pub borne : WorkerContext
   borne = bears_all logged run.attempt d.births
 
   pub ahead : Ahead f run.attempt x.node [] (stop_of d.stop) borne × ((m : ℕ) × Still g.worker x.node m (with_outcomes run d) borne)
@@ -153,10 +153,10 @@ module _ (s : Setting) (apart : KeepsMainApart s.script) (log : List Entry) (c :
       at_test (λ t. list_any is_failure (if t then [] else Commit j ∷ []) ≡ false) (refused_next es) (λ _. refl) (λ _. refl)
 
   module _ (y : Id) (stop : d.stop ≡ AtGet y) where
-    abbrev pub later : Run
+    abbrev pub later : Execution
     later = record (with_outcomes run d) { holds = ahead.1.1.holds }
 
-    abbrev pub mid : Here
+    abbrev pub mid : WorkerContext
     mid = with_phase borne later (Waits y None)
 
     abbrev pub log_mid : List Entry
@@ -207,7 +207,7 @@ module _ (s : Setting) (apart : KeepsMainApart s.script) (log : List Entry) (c :
     deaf : HearsNoDeath f
     deaf v e = cc
 
-    abbrev pub after_mid : Whole
+    abbrev pub after_mid : ClusterState
     after_mid = (after_worker (record c { jobs = (with_committed c j 0).jobs; made = c.made; delivered = c.delivered }) g.worker x.node mid).whole
 
     between : Between s log_mid after_mid

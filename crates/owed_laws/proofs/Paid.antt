@@ -8,10 +8,10 @@ use Rattle.meaning.specs.Values.{Id, Outcome}
 use Rattle.event_log.specs.Entries.{Deliver, Entry, Event, In}
 use Rattle.event_log.specs.Rules.{Setting}
 use Rattle.protocol.specs.Answers.{Step, Takes, answer}
-use Rattle.protocol.specs.Messages.{Letter, Missing, TheNode, TheWorker, letter}
+use Rattle.protocol.specs.Messages.{Envelope, Missing, TheNode, TheWorker, envelope}
 use Rattle.protocol.specs.Nodes.{Node}
 use Rattle.protocol.specs.Stores.{copy_in}
-use Rattle.protocol.specs.Whole.{Whole, node_at}
+use Rattle.protocol.specs.Cluster.{ClusterState, node_at}
 use Rattle.owed_asks.specs.of_protocol_legal.Past.{past}
 use Rattle.owed_asks.proofs.of_protocol_legal.Placing.{copy_is_true}
 use Rattle.owed_asks.specs.of_protocol_laws.Coming.{IsRight}
@@ -68,12 +68,12 @@ module _ (s : Setting) (slots : ℕ) (some : 0 < s.nodes) (slot : 1 ≤ slots) (
     named : (e : Event) → g.event ≡ e → answer r.whole e g.handed ≡ Takes step
     named e same = ap (λ i. answer r.whole i g.handed) (sym same) ∙ taken
 
-    asks : AsksAreAnswered (seen s r) g.event step.letters
+    asks : AsksAreAnswered (seen s r) g.event step.envelopes
     asks k n w a t same sent lives =
         let node = there s r keeps uses n lives in
         law_of_asks s slots slot gs g.seat g.handed k n w a t node.0 step sent node.1 node.2 (named (Deliver k) same)
 
-    module _ (n w number : ℕ) (y : Id) (node : Node) (at : node_at r.whole n ≡ Some node) (live : node.is_live ≡ true) (met : FetchIsMet node step.letters n w y number) where
+    module _ (n w number : ℕ) (y : Id) (node : Node) (at : node_at r.whole n ≡ Some node) (live : node.is_live ≡ true) (met : FetchIsMet node step.envelopes n w y number) where
       -- what the store has, by the log
       content : (c : Outcome) → copy_in node.store y number ≡ Some c → IsContentOf r.log y number c
       content c has =
@@ -113,13 +113,13 @@ module _ (s : Setting) (slots : ℕ) (some : 0 < s.nodes) (slot : 1 ≤ slots) (
     same_after : record { whole = step.whole; log = r.log ++ In g.event g.seat ∷ step.entries } ≡ after_event r g
     same_after = both (sym (last_whole r g step taken)) (sym (last_log r g step taken))
       where
-        both : {c d : Whole} {k l : List Entry} → c ≡ d → k ≡ l →
+        both : {c d : ClusterState} {k l : List Entry} → c ≡ d → k ≡ l →
             ◌≡◌ {A = Running} (record { whole = c; log = k }) (record { whole = d; log = l })
         both e f = cc
 
     replies : IsCalm (after_event r g).log → R.IsPaid (happening s r g step)
     replies calm =
-        subst (λ q. R.IsPaid (record { before = seen s r; event = g.event; entries = step.entries; letters = step.letters; after = seen s q })) same_after
+        subst (λ q. R.IsPaid (record { before = seen s r; event = g.event; entries = step.entries; envelopes = step.envelopes; after = seen s q })) same_after
         (law_of_replies s slots some apart gs right (calm_so_far r g step taken calm) g is step taken)
 
     ends_after : IsCalm (after_event r g).log → EndsAreReported (seen s (after_event r g))
@@ -128,8 +128,8 @@ module _ (s : Setting) (slots : ℕ) (some : 0 < s.nodes) (slot : 1 ≤ slots) (
         (ends_are_reported s slots some slot apart (gs ++ g ∷ []) (all_right s (opening_run s.nodes slots) gs g right is)
         (subst (λ (q : Running). IsCalm q.log) (sym (one_more (opening_run s.nodes slots) gs g)) calm))
 
-    -- what is acknowledged and handed on by the delivery of letter k
-    made : IsCalm (after_event r g).log → (k : ℕ) → g.event ≡ Deliver k → AcknowledgementsAreMade (seen s r) k step.letters
+    -- what is acknowledged and handed on by the delivery of envelope k
+    made : IsCalm (after_event r g).log → (k : ℕ) → g.event ≡ Deliver k → AcknowledgementsAreMade (seen s r) k step.envelopes
     made calm k same = law_of_acknowledgements s slots some gs g.seat k g.handed step (calm_so_far r g step taken calm) (named (Deliver k) same)
 
     paid : EventIsPaid (happening s r g step)
@@ -144,7 +144,7 @@ module _ (s : Setting) (slots : ℕ) (some : 0 < s.nodes) (slot : 1 ≤ slots) (
         gives = gives_are_begun s slots some slot apart gs right g step is taken calm;
         copies = copies_are_got s slots some slot apart gs right g step is taken calm;
         missing = λ i w y number m foreign brings.
-            let l : Letter = letter (TheNode i) (TheWorker w) (Missing y number m) in
+            let l : Envelope = envelope (TheNode i) (TheWorker w) (Missing y number m) in
             let x = (senders_are_there s.nodes slots gs l (among_at r.whole.network brings.0 l brings.2)).lacking i w y number m refl in
             (made calm brings.0 brings.1).handed_on i w x.0.node number m y foreign
             (record { brought = brings.2; place = places s r.log r.whole keeps.step.sound.between w x.0 x.1 });

@@ -1,7 +1,7 @@
 -- As long as nothing was killed or lost, an attempt that ended is reported to its owner once its Holds are acknowledged, by log and network alone.
 use Rattle.meaning.specs.Births.{birth_at, is_made_by}
 use Rattle.event_log.specs.Words.{births, same_attempt, worker_of}
-use Rattle.protocol.specs.Messages.{Finished, Letter, letter, TheWorker}
+use Rattle.protocol.specs.Messages.{Finished, Envelope, envelope, TheWorker}
 use Rattle.owed_asks.proofs.of_lease_discipline.Events.{among_at}
 use Rattle.owed_laws.proofs.HoldMoves.{hold_of, IsHeld, IsOfRun}
 use Rattle.std.proofs.Common.{◌≡◌, ℕ, zero, suc, ◌<◌, ◌≤◌, List, [], ◌∷◌, Some, Option, refl, ap, sym, subst, ◌∙◌, inl, inr, arith}
@@ -17,8 +17,8 @@ use Rattle.event_log.specs.Events.{accepted_events}
 use Rattle.event_log.specs.Rules.{Setting}
 use Rattle.event_log.proofs.WordLaws.{same_attempt-true}
 use Rattle.protocol.specs.Numbered.{item_at}
-use Rattle.protocol.specs.Tables.{Holding, Run, Worker}
-use Rattle.protocol.specs.Whole.{worker_at}
+use Rattle.protocol.specs.Tables.{Holding, Execution, Worker}
+use Rattle.protocol.specs.Cluster.{worker_at}
 use Rattle.owed_asks.specs.of_protocol_legal.Past.{past}
 use Rattle.owed_asks.specs.of_protocol_legal.Says.{IsPushed, Says}
 use Rattle.owed_asks.specs.of_protocol_legal.Whole.{Between}
@@ -79,12 +79,12 @@ module _ (s : Setting) (r : Running) (keeps : A.RunKeeps s r) (k : KeepsHolds r.
   reported : (a : Attempt) (w : ℕ) → (a ≡ main_attempt → ⊥) → worker_of a r.log ≡ Some w → ((v : ℕ) × IsReported r.whole.network v a) → IsReported r.whole.network w a
   reported a w other ran (v, (n, rs, i)) =
       let done : IsDone (worker_at r.whole) v a =
-      keeps.step.leases.workers.letters (letter (TheWorker v) (TheWorker a.object.owner) (Finished a n rs)) i in
+      keeps.step.leases.workers.envelopes (envelope (TheWorker v) (TheWorker a.object.owner) (Finished a n rs)) i in
       let same : v ≡ w = same_number v w (sym (runs_it v done.worker a done.there done.done.listed other) ∙ ran) in
       subst (λ z. IsReported r.whole.network z a) same (n, rs, i)
 
   -- a Hold that waits is the attempt's, and isn't acknowledged
-  module _ (a : Attempt) (w : ℕ) (x : Worker) (run : Run) (at : worker_at r.whole w ≡ Some x) (is : x.run ≡ Some run) (present : run.attempt ≡ a)
+  module _ (a : Attempt) (w : ℕ) (x : Worker) (run : Execution) (at : worker_at r.whole w ≡ Some x) (is : x.run ≡ Some run) (present : run.attempt ≡ a)
       (other : same_attempt run.attempt main_attempt ≡ false) (j : Holding) (listed : Among j run.holds) where
     old : RunKeeps r.log r.whole.network (accepted_events r.log) w x run
     old = k.runs w x run at is
@@ -104,12 +104,12 @@ module _ (s : Setting) (r : Running) (keeps : A.RunKeeps s r) (k : KeepsHolds r.
         record {
           spec = q.0;
           push = old.place;
-          pushed = record { there = q.1; earlier = λ i less letter. q.2 i q.0 less letter };
+          pushed = record { there = q.1; earlier = λ i less envelope. q.2 i q.0 less envelope };
           entry = entry q.0 (pushed_born q.0 old.place q.1) held.entry;
           held = record {
             there = there;
             behind = first.behind;
-            between = λ i far less letter. first.between i (hold_of w j) far less letter (is_hold w j.holder j.object);
+            between = λ i far less envelope. first.between i (hold_of w j) far less envelope (is_hold w j.holder j.object);
           };
         }
       where
@@ -119,7 +119,7 @@ module _ (s : Setting) (r : Running) (keeps : A.RunKeeps s r) (k : KeepsHolds r.
         pushed_born : (spec : Birth) (i : ℕ) → item_at r.whole.network i ≡ Some (push_by run.attempt.object.owner w run.attempt spec) →
             birth_at (births r.log) run.attempt.object ≡ Some spec
         pushed_born spec i at_i =
-            let l : Letter = push_by run.attempt.object.owner w run.attempt spec in
+            let l : Envelope = push_by run.attempt.object.owner w run.attempt spec in
             let says : IsPushed r.log run.attempt spec w = all_among (Says (past r.log b.asked)) r.whole.network l b.knows.told (among_at r.whole.network i l at_i) in
             says.born
 

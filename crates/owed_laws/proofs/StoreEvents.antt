@@ -17,25 +17,25 @@ use Rattle.protocol.specs.Commits.{claim_step, commit_step, next_id_here}
 use Rattle.protocol.specs.Deliveries.{reached}
 use Rattle.protocol.specs.Events.{committed_by, dead, delivered_by, delivered_to, happens, is_live_node, is_live_worker, killed_by, objects_made}
 use Rattle.protocol.specs.Events.{with_committed, with_delivered}
-use Rattle.protocol.specs.Jobs.{Given, Handed, Nothing, OfAnother, OfJob, Outcomes, stop_of}
-use Rattle.protocol.specs.Messages.{Ask, At, Back, CopyOf, Elsewhere, Failed, Fetch, Finished, FinishedAck, Give, Gone, Hold, HoldAck, Letter, letter, Message}
-use Rattle.protocol.specs.Messages.{Missing, Party, Push, Reason, TheNode, TheWorker, Unhold, Wait, Where}
-use Rattle.protocol.specs.Nodes.{Node, There, new_node}
+use Rattle.protocol.specs.Jobs.{JobRecord, CommitInput, Nothing, OfAnother, OfJob, Outcomes, stop_of}
+use Rattle.protocol.specs.Messages.{Ask, At, Back, CopyOf, Elsewhere, Failed, Fetch, Finished, FinishedAck, Give, Gone, Hold, HoldAck, Envelope, envelope, Message}
+use Rattle.protocol.specs.Messages.{Missing, Endpoint, Push, Reason, TheNode, TheWorker, Unhold, Wait, Where}
+use Rattle.protocol.specs.Nodes.{Node, NodeContext, new_node}
 use Rattle.protocol.specs.Notices.{notice_node_step, notice_step}
 use Rattle.protocol.specs.Numbered.{changed_at, item_at}
 use Rattle.protocol.specs.Refusals.{commit_refusal, is_of_job, is_out_by, or_refusal, refusal, unless}
 use Rattle.protocol.specs.Releases.{release_step}
 use Rattle.protocol.specs.Slots.{ask_key, fetched, forgets, node_reached, node_reached_from, reply_to}
-use Rattle.protocol.specs.Steps.{Here}
+use Rattle.protocol.specs.Steps.{WorkerContext}
 use Rattle.protocol.specs.Stores.{Copy, Store, copy_in, is_copy_of, is_of, without_copies}
-use Rattle.protocol.specs.Tables.{Run, Worker}
+use Rattle.protocol.specs.Tables.{Execution, Worker}
 use Rattle.protocol.specs.Ticks.{tick_step}
-use Rattle.protocol.specs.Whole.{Moved, Whole, after_worker, here, moved, node_at, node_does, node_does_by, there, worker_at, worker_does, worker_does_at, worker_does_by}
+use Rattle.protocol.specs.Cluster.{Transition, ClusterState, after_worker, here, moved, node_at, node_does, node_does_by, there, worker_at, worker_does, worker_does_at, worker_does_by}
 use Rattle.owed_asks.specs.of_protocol_legal.Made.{IsEndedAt, IsPutAt}
 use Rattle.owed_asks.specs.of_protocol_legal.Whole.{Between}
 use Rattle.protocol_owed.proofs.CourseAll.{LiveOne, both_passed, live_one, passed}
 use Rattle.protocol_owed.proofs.CourseRuns.{OutOf, out_of}
-use Rattle.protocol_owed.proofs.Letters.{among-nothing}
+use Rattle.protocol_owed.proofs.Envelopes.{among-nothing}
 use Rattle.protocol_owed.proofs.Nodes.{changed_cases, push_cases}
 use Rattle.owed_asks.specs.of_lease_discipline.Told.{IsInStep}
 use Rattle.owed_asks.proofs.of_lease_discipline.Told.{places}
@@ -50,23 +50,23 @@ use Rattle.owed_laws.proofs.StoreMoves.{IsKept, Stores, copy_same, looked_keeps}
 -- ---- what an event leaves
 
 -- the event takes the object's copies at the node: it brings word of its release there, or is their loss
-abbrev pub TakesCopies : List Letter → Event → ℕ → Id → Type 0
+abbrev pub TakesCopies : List Envelope → Event → ℕ → Id → Type 0
 TakesCopies sent e n o =
-    ((i : ℕ) × (from : Party) × (x : Id) × (why : Reason) × (e ≡ Deliver i) × (item_at sent i ≡ Some (letter from (TheNode n) (Unhold x o why))))
+    ((i : ℕ) × (from : Endpoint) × (x : Id) × (why : Reason) × (e ≡ Deliver i) × (item_at sent i ≡ Some (envelope from (TheNode n) (Unhold x o why))))
     ⊎ (e ≡ Lose n o)
 
 -- a node of before, with its copies but those that the event takes
-pub record WasThere (c : Whole) (e : Event) (n : ℕ) (next : Node) : Type 0 where
+pub record WasThere (c : ClusterState) (e : Event) (n : ℕ) (next : Node) : Type 0 where
   pub node : Node
   pub at : node_at c n ≡ Some node
   pub keeps : (o : Id) (number : ℕ) → Stores node.store o number → Stores next.store o number ⊎ TakesCopies c.network e n o
 
 -- after the event each node is one of before, or new, with a greater number
-abbrev pub NodesKeep : Whole → Event → List Node → Type 0
+abbrev pub NodesKeep : ClusterState → Event → List Node → Type 0
 NodesKeep c e after = (n : ℕ) (next : Node) → item_at after n ≡ Some next → WasThere c e n next ⊎ (length c.nodes < n)
 
 -- and the copies of what it makes are there
-pub record Makes (c : Whole) (later : List Entry) (e : Event) (m : Moved) : Type 0 where
+pub record Makes (c : ClusterState) (later : List Entry) (e : Event) (m : Transition) : Type 0 where
   pub nodes : NodesKeep c e m.whole.nodes
   pub puts : (n : ℕ) (node : Node) → node_at m.whole n ≡ Some node → (o : Id) (number : ℕ) → IsPutAt later o number n → IsNewPut m.out.entries o number →
       Stores node.store o number
@@ -118,14 +118,14 @@ without_keeps s o p number h =
 
 -- ---- events that make nothing
 
-module _ (c : Whole) (e : Event) where
-  abbrev Silent : Moved → Type 0
+module _ (c : ClusterState) (e : Event) where
+  abbrev Silent : Transition → Type 0
   Silent m = NodesKeep c e m.whole.nodes × MakesNothing m.out.entries
 
   all_there : NodesKeep c e c.nodes
   all_there n next at = inl (record { node = next; at = at; keeps = λ o number p. inl p })
 
-  nothing : (d : Whole) → d.nodes ≡ c.nodes → Silent (moved d)
+  nothing : (d : ClusterState) → d.nodes ≡ c.nodes → Silent (moved d)
   nothing d same = (subst (NodesKeep c e) (sym same) all_there, none_made)
 
   changed_there : (m : ℕ) (f : Node → Node) →
@@ -143,20 +143,20 @@ module _ (c : Whole) (e : Event) where
   ]
 
   -- what a step at a node leaves of its store
-  record Leaves (n : ℕ) (before : Store) (t : There) : Type 0 where
+  record Leaves (n : ℕ) (before : Store) (t : NodeContext) : Type 0 where
     keeps : (o : Id) (number : ℕ) → Stores before o number → Stores t.node.store o number ⊎ TakesCopies c.network e n o
     none : MakesNothing t.out.entries
 
-  stays_leaves : (n : ℕ) (before : Store) (t : There) → StaysThere before [] t → Leaves n before t
+  stays_leaves : (n : ℕ) (before : Store) (t : NodeContext) → StaysThere before [] t → Leaves n before t
   stays_leaves n before t p = record {
     keeps = λ o number q. inl (p.copies o number q);
     none = λ o number. (λ q. (none_made o number).0 (p.puts o number q), λ first q. (none_made o number).1 first (p.ends first o number q));
   }
 
-  begun : (d : Whole) (n : ℕ) (node : Node) → StaysThere node.store [] (there d n node)
+  begun : (d : ClusterState) (n : ℕ) (node : Node) → StaysThere node.store [] (there d n node)
   begun d n node = record { copies = λ o number q. q; puts = λ o number q. q; ends = λ first o number q. q }
 
-  node_changed : (d : Whole) → d.nodes ≡ c.nodes → (n : ℕ) (node : Node) → node_at d n ≡ Some node → (t : There) →
+  node_changed : (d : ClusterState) → d.nodes ≡ c.nodes → (n : ℕ) (node : Node) → node_at d n ≡ Some node → (t : NodeContext) →
       ((o : Id) (number : ℕ) → Stores node.store o number → Stores t.node.store o number ⊎ TakesCopies c.network e n o) →
       NodesKeep c e (changed_at d.nodes n (λ _. t.node))
   node_changed d same n node at t keeps =
@@ -165,22 +165,22 @@ module _ (c : Whole) (e : Event) where
       subst (λ (x : Node). (o : Id) (number : ℕ) → Stores x.store o number → Stores t.node.store o number ⊎ TakesCopies c.network e n o)
       (same_node node other (sym at ∙ ap (λ ns. item_at ns n) same ∙ was)) keeps))
 
-  node_silent : (d : Whole) → d.nodes ≡ c.nodes → (n : ℕ) (f : There → There) → ((node : Node) → Leaves n node.store (f (there d n node))) → Silent (node_does d n f)
+  node_silent : (d : ClusterState) → d.nodes ≡ c.nodes → (n : ℕ) (f : NodeContext → NodeContext) → ((node : Node) → Leaves n node.store (f (there d n node))) → Silent (node_does d n f)
   node_silent d same n f step = by_node (node_at d n) refl
     where
       by_node : (o : Option Node) → node_at d n ≡ o → Silent (node_does_by d n f o)
       by_node None at = nothing d same
       by_node (Some node) at = (node_changed d same n node at (f (there d n node)) (step node).keeps, (step node).none)
 
-  worker_silent : (d : Whole) → d.nodes ≡ c.nodes → (w : ℕ) (f : Here → Here) → ((P : Here → Type 0) → IsKept P → (h : Here) → P h → P (f h)) →
+  worker_silent : (d : ClusterState) → d.nodes ≡ c.nodes → (w : ℕ) (f : WorkerContext → WorkerContext) → ((P : WorkerContext → Type 0) → IsKept P → (h : WorkerContext) → P h → P (f h)) →
       Silent (worker_does d w f)
   worker_silent d same w f step = by_worker (worker_at d w)
     where
       by_home : (x : Worker) (o : Option Node) → node_at d x.node ≡ o → Silent (worker_does_at d w x f o)
       by_home x None at = nothing d same
       by_home x (Some node) at =
-          let h : Here = here d w x node in
-          let g : Here = release_step (f h) in
+          let h : WorkerContext = here d w x node in
+          let g : WorkerContext = release_step (f h) in
           let kept = stays_kept node.store [] in
           let end : Stays node.store [] g = M.release_step-kept (Stays node.store []) kept (f h) (step (Stays node.store []) kept h (begun d x.node node)) in
           let left : Leaves x.node node.store g.there = stays_leaves x.node node.store g.there end in
@@ -190,7 +190,7 @@ module _ (c : Whole) (e : Event) where
       by_worker None = nothing d same
       by_worker (Some x) = by_home x (node_at d x.node) refl
 
-pub makes_none : (c : Whole) (later : List Entry) (e : Event) (m : Moved) → NodesKeep c e m.whole.nodes → MakesNothing m.out.entries → Makes c later e m
+pub makes_none : (c : ClusterState) (later : List Entry) (e : Event) (m : Transition) → NodesKeep c e m.whole.nodes → MakesNothing m.out.entries → Makes c later e m
 makes_none c later e m nodes none = record {
   nodes = nodes;
   puts = λ n node at o number p new. absurd ((none o number).0 new);
@@ -199,23 +199,23 @@ makes_none c later e m nodes none = record {
 
 -- ---- deliveries
 
-module _ (c : Whole) (i : ℕ) (l : Letter) (sent : item_at c.network i ≡ Some l) where
-  -- a letter that reaches a node
-  module _ (n : ℕ) (to : l.receiver ≡ TheNode n) (d : Whole) (node : Node) where
-    abbrev t : There
+module _ (c : ClusterState) (i : ℕ) (l : Envelope) (sent : item_at c.network i ≡ Some l) where
+  -- a envelope that reaches a node
+  module _ (n : ℕ) (to : l.receiver ≡ TheNode n) (d : ClusterState) (node : Node) where
+    abbrev t : NodeContext
     t = there d n node
 
-    abbrev Left : There → Type 0
+    abbrev Left : NodeContext → Type 0
     Left h = Leaves c (Deliver i) n node.store h
 
-    stays : (h : There) → StaysThere node.store [] h → Left h
+    stays : (h : NodeContext) → StaysThere node.store [] h → Left h
     stays h p = stays_leaves c (Deliver i) n node.store h p
 
     start : StaysThere node.store [] t
     start = begun c (Deliver i) d n node
 
-    is_letter : (from : Party) (m : Message) → l.sender ≡ from → l.message ≡ m → l ≡ letter from (TheNode n) m
-    is_letter from m e f = ap (λ p. letter p l.receiver l.message) e ∙ ap (λ p. letter from p l.message) to ∙ ap (letter from (TheNode n)) f
+    is_envelope : (from : Endpoint) (m : Message) → l.sender ≡ from → l.message ≡ m → l ≡ envelope from (TheNode n) m
+    is_envelope from m e f = ap (λ p. envelope p l.receiver l.message) e ∙ ap (λ p. envelope from p l.message) to ∙ ap (envelope from (TheNode n)) f
 
     by_fetch : (o : Id) (number w : ℕ) (x : Option Outcome) → Left (fetched t o number w x)
     by_fetch o number w None = stays (fetched t o number w None) (record { copies = start.copies; puts = start.puts; ends = start.ends })
@@ -237,8 +237,8 @@ module _ (c : Whole) (i : ℕ) (l : Letter) (sent : item_at c.network i ≡ Some
           x,
           why,
           refl,
-          subst (λ z. item_at c.network i ≡ Some (letter (TheWorker w) (TheNode n) (Unhold x z why))) (sym same)
-              (sent ∙ ap (λ z. Some z) (is_letter (TheWorker w) (Unhold x o why) e f)),
+          subst (λ z. item_at c.network i ≡ Some (envelope (TheWorker w) (TheNode n) (Unhold x z why))) (sym same)
+              (sent ∙ ap (λ z. Some z) (is_envelope (TheWorker w) (Unhold x o why) e f)),
         ))
       ];
       none = none_made;
@@ -258,14 +258,14 @@ module _ (c : Whole) (i : ℕ) (l : Letter) (sent : item_at c.network i ≡ Some
     by_message w (Hold x o) e f = stays t start
     by_message w (HoldAck x o) e f = stays t start
 
-    by_sender : (p : Party) (m : Message) → l.sender ≡ p → l.message ≡ m → Left (node_reached t p m)
+    by_sender : (p : Endpoint) (m : Message) → l.sender ≡ p → l.message ≡ m → Left (node_reached t p m)
     by_sender (TheWorker w) m e f = by_message w m e f
     by_sender (TheNode k) m e f = stays t start
 
     reached_leaves : Left (node_reached t l.sender l.message)
     reached_leaves = by_sender l.sender l.message refl refl
 
-  delivered_silent : (to : Party) → l.receiver ≡ to → Silent c (Deliver i) (delivered_to (with_delivered c i) l to)
+  delivered_silent : (to : Endpoint) → l.receiver ≡ to → Silent c (Deliver i) (delivered_to (with_delivered c i) l to)
   delivered_silent (TheWorker w) to =
       at_test (λ b. Silent c (Deliver i) (if b then worker_does (with_delivered c i) w (λ h. reached h l.sender l.message) else moved (with_delivered c i)))
       (is_live_worker (worker_at c w))
@@ -277,27 +277,27 @@ module _ (c : Whole) (i : ℕ) (l : Letter) (sent : item_at c.network i ≡ Some
       (λ _. node_silent c (Deliver i) (with_delivered c i) refl n (λ h. node_reached h l.sender l.message) (λ node. reached_leaves n to (with_delivered c i) node))
       (λ _. nothing c (Deliver i) (with_delivered c i) refl)
 
-deliver_silent : (c : Whole) (i : ℕ) (o : Option Letter) → item_at c.network i ≡ o → Silent c (Deliver i) (delivered_by c i o)
+deliver_silent : (c : ClusterState) (i : ℕ) (o : Option Envelope) → item_at c.network i ≡ o → Silent c (Deliver i) (delivered_by c i o)
 deliver_silent c i None at = nothing c (Deliver i) c refl
 deliver_silent c i (Some l) at = delivered_silent c i l at l.receiver refl
 
 -- ---- a commit
 
-module _ (s : Setting) (log : List Entry) (c : Whole) (b : Between s log c) (j seat : ℕ) (d : Outcomes) (me : ℕ) (x : Worker) (at : worker_at c me ≡ Some x)
-    (live : x.is_live ≡ true) (node : Node) (home : node_at c x.node ≡ Some node) (run : Run) (runs : x.run ≡ Some run) where
-  abbrev base : Whole
+module _ (s : Setting) (log : List Entry) (c : ClusterState) (b : Between s log c) (j seat : ℕ) (d : Outcomes) (me : ℕ) (x : Worker) (at : worker_at c me ≡ Some x)
+    (live : x.is_live ≡ true) (node : Node) (home : node_at c x.node ≡ Some node) (run : Execution) (runs : x.run ≡ Some run) where
+  abbrev base : ClusterState
   base = with_committed c j (objects_made d.births)
 
-  abbrev before_commit : Here
+  abbrev before_commit : WorkerContext
   before_commit = here base me x node
 
-  abbrev after_commit : Here
+  abbrev after_commit : WorkerContext
   after_commit = release_step (commit_step before_commit d)
 
   abbrev commit_made : List Entry
   commit_made = commit_entries run.attempt (next_id_here before_commit) d.births d.prints (stop_of d.stop)
 
-  abbrev committed_so : Moved
+  abbrev committed_so : Transition
   committed_so = after_worker base me x.node after_commit
 
   abbrev log_after : List Entry
@@ -344,18 +344,18 @@ module _ (s : Setting) (log : List Entry) (c : Whole) (b : Between s log c) (j s
 
 -- ---- every event
 
-module _ (s : Setting) (log : List Entry) (c : Whole) (before : IsInStep s log c) (seat : ℕ) where
-  abbrev After : Event → Moved → List Entry
+module _ (s : Setting) (log : List Entry) (c : ClusterState) (before : IsInStep s log c) (seat : ℕ) where
+  abbrev After : Event → Transition → List Entry
   After e m = log ++ In e seat ∷ m.out.entries
 
-  silent : (e : Event) (m : Moved) → Silent c e m → Makes c (After e m) e m
+  silent : (e : Event) (m : Transition) → Silent c e m → Makes c (After e m) e m
   silent e m p = makes_none c (After e m) e m p.0 p.1
 
   unhanded : (j : ℕ) (b d : Bool) (o : Option Refusal) → or_refusal (unless (d && false && b) NoJob) o ≡ None → Makes c (After (Commit j) (moved c)) (Commit j) (moved c)
   unhanded j b true o f = absurd (cc)
   unhanded j b false o f = absurd (cc)
 
-  commits_make : (j : ℕ) (handed : Handed) (g : Option Given) → commit_refusal c j handed g ≡ None →
+  commits_make : (j : ℕ) (handed : CommitInput) (g : Option JobRecord) → commit_refusal c j handed g ≡ None →
       Makes c (After (Commit j) (committed_by c j handed g)) (Commit j) (committed_by c j handed g)
   commits_make j handed None e = absurd (cc)
   commits_make j Nothing (Some g) e = unhanded j (is_out_by (worker_at c g.worker) j) (not g.is_committed) (unless (is_live_worker (worker_at c g.worker)) Stale) e
@@ -368,16 +368,16 @@ module _ (s : Setting) (log : List Entry) (c : Whole) (before : IsInStep s log c
       let x : LiveOne (worker_at c g.worker) = live_one (worker_at c g.worker) (passed (is_live_worker (worker_at c g.worker)) Stale both.1) in
       let n = before.leases.homes g.worker x.worker x.at in
       let run : OutOf x.worker.run j = out_of x.worker.run j (ap (λ y. is_out_by y j) (sym x.at) ∙ out) in
-      let d : Whole = with_committed c j (objects_made o.births) in
+      let d : ClusterState = with_committed c j (objects_made o.births) in
       let same : worker_does d g.worker (λ h. commit_step h o) ≡ after_worker d g.worker x.worker.node (release_step (commit_step (here d g.worker x.worker n.0) o)) =
       ap (worker_does_by d g.worker (λ h. commit_step h o)) x.at ∙ ap (worker_does_at d g.worker x.worker (λ h. commit_step h o)) n.1 in
-      subst (λ (m : Moved). Makes c (After (Commit j) m) (Commit j) m) (sym same)
+      subst (λ (m : Transition). Makes c (After (Commit j) m) (Commit j) m) (sym same)
       (commit_makes s log c before.sound.between j seat o g.worker x.worker x.at x.lives n.0 n.1 run.run run.at)
 
   killed_silent : (w : ℕ) (o : Option Worker) → Silent c (Kill w) (killed_by c w o)
   killed_silent w None = nothing c (Kill w) c refl
   killed_silent w (Some x) =
-      let d : Whole = record c { workers = changed_at c.workers w dead } in
+      let d : ClusterState = record c { workers = changed_at c.workers w dead } in
       node_silent c (Kill w) d refl x.node (λ h. forgets h w) (λ node. stays_leaves c (Kill w) x.node node.store (forgets (there d x.node node) w)
       (S.forgets-kept (StaysThere node.store []) (there_stays node.store []) (there d x.node node) w (begun c (Kill w) d x.node node)))
 
@@ -387,7 +387,7 @@ module _ (s : Setting) (log : List Entry) (c : Whole) (before : IsInStep s log c
     | inr (number, _) ↦ inr (omega (arith, number))
   ]
 
-  pub event_makes : (e : Event) (handed : Handed) → refusal c e handed ≡ None → Makes c (After e (happens c e handed)) e (happens c e handed)
+  pub event_makes : (e : Event) (handed : CommitInput) → refusal c e handed ≡ None → Makes c (After e (happens c e handed)) e (happens c e handed)
   event_makes (Claim w) handed e =
       silent (Claim w) (happens c (Claim w) handed) (worker_silent c (Claim w) (record c { jobs = c.jobs ++ record { worker = w; is_committed = false } ∷ [] }) refl w
       (λ h. claim_step h (length c.jobs + 1)) (λ P kept h p. M.claim_step-kept P kept h (length c.jobs + 1) p))

@@ -9,12 +9,12 @@ use Rattle.std.specs.Prelude.{◌≡◌, ℕ, ◌==◌, ◌&&◌, not, Bool, tru
 use Rattle.meaning.specs.Values.{Id, Outcome, Birth, Val}
 use Rattle.values.specs.Cells.{is_small}
 use Rattle.event_log.specs.Entries.{Attempt, Entry, In, Refused, Opened, Born, Ended}
-use Rattle.protocol.specs.Messages.{Message, Party}
+use Rattle.protocol.specs.Messages.{Message, Endpoint}
 use Rattle.protocol.specs.Jobs.{Stopped}
 use Rattle.protocol.specs.Stores.{Copy, Store, brought_to_front, copy, is_copy_of, looked_up, with_ended, with_primary, with_secondary}
-use Rattle.protocol.specs.Tables.{Run, Worker}
+use Rattle.protocol.specs.Tables.{Execution, Worker}
 use Rattle.std.specs.List.{filter, find, list_any}
-use Rattle.protocol.specs.Steps.{Here, logs_all, says, says_to_node, with_worker, with_store, store_here}
+use Rattle.protocol.specs.Steps.{WorkerContext, logs_all, says, says_to_node, with_worker, with_store, store_here}
 use Rattle.protocol.specs.Runs.{gives_slot_back, asks_for_slot, leaves_if_free}
 use Rattle.protocol.specs.Holders.{holds_ids}
 use Rattle.protocol.specs.Commits.{keeps_contents, bears_all, stops_by, claim_step}
@@ -108,17 +108,17 @@ abbrev pub is_quiet : List Entry → Bool
 is_quiet [] = true
 is_quiet (x ∷ es) = is_mute x && is_quiet es
 
-pub record IsKept (P : Here → Type 0) : Type 0 where
-  pub logs : (h : Here) (es : List Entry) → is_quiet es ≡ true → P h → P (logs_all h es)
-  pub says : (h : Here) (w : ℕ) (m : Message) → P h → P (says h w m)
-  pub says_to_node : (h : Here) (n : ℕ) (m : Message) → P h → P (says_to_node h n m)
-  pub worker : (h : Here) (x : Worker) → x.node ≡ h.worker.node → x.is_live ≡ h.worker.is_live → P h → P (with_worker h x)
+pub record IsKept (P : WorkerContext → Type 0) : Type 0 where
+  pub logs : (h : WorkerContext) (es : List Entry) → is_quiet es ≡ true → P h → P (logs_all h es)
+  pub says : (h : WorkerContext) (w : ℕ) (m : Message) → P h → P (says h w m)
+  pub says_to_node : (h : WorkerContext) (n : ℕ) (m : Message) → P h → P (says_to_node h n m)
+  pub worker : (h : WorkerContext) (x : Worker) → x.node ≡ h.worker.node → x.is_live ≡ h.worker.is_live → P h → P (with_worker h x)
   -- no primary copy is taken away
-  pub store : (h : Here) (s : Store) → KeepsPrimaries (store_here h) s → P h → P (with_store h s)
-  pub frees : (h : Here) → P h → P (gives_slot_back h)
-  pub asks : (h : Here) → P h → P (asks_for_slot h)
+  pub store : (h : WorkerContext) (s : Store) → KeepsPrimaries (store_here h) s → P h → P (with_store h s)
+  pub frees : (h : WorkerContext) → P h → P (gives_slot_back h)
+  pub asks : (h : WorkerContext) → P h → P (asks_for_slot h)
 
-module _ (P : Here → Type 0) (kept : IsKept P) where
+module _ (P : WorkerContext → Type 0) (kept : IsKept P) where
   plain : KeepsPlainly P
   plain = record {
     accepted = λ h a p. kept.logs h _ refl p;
@@ -138,35 +138,35 @@ module _ (P : Here → Type 0) (kept : IsKept P) where
     asks = kept.asks;
   }
 
-  pub reached-kept : (h : Here) (from : Party) (m : Message) → P h → P (reached h from m)
+  pub reached-kept : (h : WorkerContext) (from : Endpoint) (m : Message) → P h → P (reached h from m)
   reached-kept h from m p = S.reached-kept P (L.keeps P plain) (L.heard P plain) h from m tt p
 
-  pub tick_step-kept : (h : Here) → P h → P (tick_step h)
+  pub tick_step-kept : (h : WorkerContext) → P h → P (tick_step h)
   tick_step-kept h p = S.tick_step-kept P (L.keeps P plain) h tt tt p
 
-  pub notice_step-kept : (h : Here) (v : ℕ) → P h → P (notice_step h v)
+  pub notice_step-kept : (h : WorkerContext) (v : ℕ) → P h → P (notice_step h v)
   notice_step-kept h v p = S.notice_step-kept P (L.keeps P plain) h v p
 
-  pub notice_node_step-kept : (h : Here) (m : ℕ) → P h → P (notice_node_step h m)
+  pub notice_node_step-kept : (h : WorkerContext) (m : ℕ) → P h → P (notice_node_step h m)
   notice_node_step-kept h m p = S.notice_node_step-kept P (L.keeps P plain) h m (λ _ _. tt) p
 
-  pub release_step-kept : (h : Here) → P h → P (release_step h)
+  pub release_step-kept : (h : WorkerContext) → P h → P (release_step h)
   release_step-kept h p = S.release_step-kept P (L.keeps P plain) h p
 
-  pub leaves_if_free-kept : (h : Here) → P h → P (leaves_if_free h)
+  pub leaves_if_free-kept : (h : WorkerContext) → P h → P (leaves_if_free h)
   leaves_if_free-kept h p = S.leaves_if_free-kept P (L.over P plain) h p
 
-  pub holds_ids-kept : (h : Here) (e : Id) (os : List Id) → P h → P (holds_ids h e os)
+  pub holds_ids-kept : (h : WorkerContext) (e : Id) (os : List Id) → P h → P (holds_ids h e os)
   holds_ids-kept h e os p = S.holds_ids-kept P (L.keeps P plain) (L.births P plain) h e os p
 
-  pub bears_all-kept : (h : Here) (a : Attempt) (bs : List Birth) → P h → P (bears_all h a bs)
+  pub bears_all-kept : (h : WorkerContext) (a : Attempt) (bs : List Birth) → P h → P (bears_all h a bs)
   bears_all-kept h a bs p = S.bears_all-kept P (L.keeps P plain) (L.births P plain) h a bs p
 
-  pub keeps_contents-kept : (h : Here) (o : Id) (number : ℕ) (cs : List Outcome) → P h → P (keeps_contents h o number cs)
+  pub keeps_contents-kept : (h : WorkerContext) (o : Id) (number : ℕ) (cs : List Outcome) → P h → P (keeps_contents h o number cs)
   keeps_contents-kept h o number cs p = S.keeps_contents-kept P (L.keeps P plain) (L.births P plain) h o number cs p
 
-  pub claim_step-kept : (h : Here) (j : ℕ) → P h → P (claim_step h j)
+  pub claim_step-kept : (h : WorkerContext) (j : ℕ) → P h → P (claim_step h j)
   claim_step-kept h j p = L.claim_step-kept P plain h j p
 
-  pub stops_by-kept : (h : Here) (stop : Stopped) (r : Option Run) → P h → P (stops_by h stop r)
+  pub stops_by-kept : (h : WorkerContext) (stop : Stopped) (r : Option Execution) → P h → P (stops_by h stop r)
   stops_by-kept h stop r p = L.stops_by-kept P plain h stop r p

@@ -4,7 +4,7 @@ use Rattle.meaning.specs.Values.{Items, Put, Val, Value, more, none}
 use Rattle.event_log.specs.Entries.{Accepted, Begun, Born, Claim, Commit, Deliver, Ended, Entry, In, main_attempt}
 use Rattle.event_log.specs.Rules.{Setting}
 use Rattle.event_log.specs.Legal.{opening}
-use Rattle.protocol.specs.Messages.{Ask, At, CopyOf, Fetch, Finished, FinishedAck, Hold, Letter, Message, Missing, Push, TheNode, TheWorker, Where, letter}
+use Rattle.protocol.specs.Messages.{Ask, At, CopyOf, Fetch, Finished, FinishedAck, Hold, Envelope, Message, Missing, Push, TheNode, TheWorker, Where, envelope}
 use Rattle.protocol.specs.Sets.{object_id}
 use Rattle.protocol_owed.specs.Ends.{EndsAreReported}
 use Rattle.protocol_owed.specs.Replies.{BirthIsAsked, FetchIsAnswered, FinishIsAcknowledged, Happening, HasFirstCopy, RequestIsTold}
@@ -13,41 +13,41 @@ use Rattle.owed_asks.specs.of_lease_discipline.Examples.{first_one, given_log, o
 
 -- ---- a birth
 
--- main's first job bears the task, and its commit sends these letters
-abbrev pub birth_comes : Setting → List Letter → Happening
-birth_comes s letters =
+-- main's first job bears the task, and its commit sends these envelopes
+abbrev pub birth_comes : Setting → List Envelope → Happening
+birth_comes s envelopes =
     record {
       before = scene s (opening ++ In (Claim 1) 0 ∷ []) [] (1 ∷ []);
       event = Commit 1;
       entries = Born (object_id 1 1) main_attempt one_once ∷ [];
-      letters = letters;
-      after = scene s (opening ++ In (Claim 1) 0 ∷ In (Commit 1) 0 ∷ Born (object_id 1 1) main_attempt one_once ∷ []) letters [];
+      envelopes = envelopes;
+      after = scene s (opening ++ In (Claim 1) 0 ∷ In (Commit 1) 0 ∷ Born (object_id 1 1) main_attempt one_once ∷ []) envelopes [];
     }
 
 -- it is asked for; and altered, without its ask, or asked for at another node
 pub record BirthsAreJudged : Type 0 where
-  pub paid : (s : Setting) → BirthIsAsked (birth_comes s (letter (TheWorker 1) (TheNode 1) (Ask first_one 0) ∷ []))
+  pub paid : (s : Setting) → BirthIsAsked (birth_comes s (envelope (TheWorker 1) (TheNode 1) (Ask first_one 0) ∷ []))
   pub unasked : (s : Setting) → BirthIsAsked (birth_comes s []) → ⊥
-  pub elsewhere : (s : Setting) → BirthIsAsked (birth_comes s (letter (TheWorker 1) (TheNode 2) (Ask first_one 0) ∷ [])) → ⊥
+  pub elsewhere : (s : Setting) → BirthIsAsked (birth_comes s (envelope (TheWorker 1) (TheNode 2) (Ask first_one 0) ∷ [])) → ⊥
 
 -- ---- an end
 
-abbrev pub ended_network : List Letter
-ended_network = letter (TheWorker 2) (TheWorker 1) (Finished first_one 1 (record { ids = []; kept = None } ∷ [])) ∷ []
+abbrev pub ended_network : List Envelope
+ended_network = envelope (TheWorker 2) (TheWorker 1) (Finished first_one 1 (record { ids = []; kept = None } ∷ [])) ∷ []
 
 -- worker 2 has told worker 1 that the attempt ended
-abbrev pub end_comes : Setting → List Entry → List Letter → Happening
-end_comes s entries letters =
+abbrev pub end_comes : Setting → List Entry → List Envelope → Happening
+end_comes s entries envelopes =
     record {
       before = scene s given_log ended_network (2 ∷ []);
       event = Deliver 1;
       entries = entries;
-      letters = letters;
+      envelopes = envelopes;
       after = scene s given_log ended_network (2 ∷ []);
     }
 
-abbrev pub acknowledged : List Letter
-acknowledged = letter (TheWorker 1) (TheWorker 2) (FinishedAck first_one) ∷ []
+abbrev pub acknowledged : List Envelope
+acknowledged = envelope (TheWorker 1) (TheWorker 2) (FinishedAck first_one) ∷ []
 
 -- it is accepted and acknowledged; and altered, without the acceptance, or without the acknowledgement
 pub record EndsAreJudged : Type 0 where
@@ -84,7 +84,7 @@ fetch_scene s log has =
       setting = s;
       slots = 1;
       log = log;
-      network = letter (TheWorker 2) (TheNode 1) (Fetch (object_id 1 1) 0) ∷ [];
+      network = envelope (TheWorker 2) (TheNode 1) (Fetch (object_id 1 1) 0) ∷ [];
       holders = λ n. [];
       keeps = λ n o number. has;
     }
@@ -95,7 +95,7 @@ fetch_comes s has answer =
       before = fetch_scene s put_log has;
       event = Deliver 1;
       entries = [];
-      letters = letter (TheNode 1) (TheWorker 2) answer ∷ [];
+      envelopes = envelope (TheNode 1) (TheWorker 2) answer ∷ [];
       after = fetch_scene s put_log has;
     }
 
@@ -117,7 +117,7 @@ request_scene s =
       setting = s;
       slots = 1;
       log = put_log;
-      network = letter (TheWorker 2) (TheWorker 1) (Where (object_id 1 1)) ∷ [];
+      network = envelope (TheWorker 2) (TheWorker 1) (Where (object_id 1 1)) ∷ [];
       holders = λ n. [];
       keeps = λ n o number. true;
     }
@@ -128,7 +128,7 @@ request_comes s answer =
       before = request_scene s;
       event = Deliver 1;
       entries = [];
-      letters = letter (TheWorker 1) (TheWorker 2) answer ∷ [];
+      envelopes = envelope (TheWorker 1) (TheWorker 2) answer ∷ [];
       after = request_scene s;
     }
 
@@ -140,13 +140,13 @@ pub record RequestsAreJudged : Type 0 where
 -- ---- a report
 
 -- worker 2 was pushed the attempt, and that ended
-abbrev pub report_scene : Setting → List Letter → Scene
-report_scene s letters =
+abbrev pub report_scene : Setting → List Envelope → Scene
+report_scene s envelopes =
     record {
       setting = s;
       slots = 1;
       log = given_log ++ Begun first_one 2 ∷ Ended first_one (Val empty_list ∷ []) ∷ [];
-      network = letter (TheWorker 1) (TheWorker 2) (Push first_one one_once) ∷ letters;
+      network = envelope (TheWorker 1) (TheWorker 2) (Push first_one one_once) ∷ envelopes;
       holders = λ n. [];
       keeps = λ n o number. false;
     }
@@ -154,4 +154,4 @@ report_scene s letters =
 -- it isn't told, though no Hold was sent; and it needn't be yet, where a Hold for the attempt's object waits
 pub record ReportsAreJudged : Type 0 where
   pub untold : (s : Setting) → EndsAreReported (report_scene s []) → ⊥
-  pub waits : (s : Setting) → EndsAreReported (report_scene s (letter (TheWorker 2) (TheWorker 3) (Hold (object_id 1 1) (object_id 3 1)) ∷ []))
+  pub waits : (s : Setting) → EndsAreReported (report_scene s (envelope (TheWorker 2) (TheWorker 3) (Hold (object_id 1 1) (object_id 3 1)) ∷ []))

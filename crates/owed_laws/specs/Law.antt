@@ -48,7 +48,7 @@ pub record RepliesArePaid (h : Happening) : Type 0 where
 -- what an accepted event owes, by log, network and slots before and after it
 pub record EventIsPaid (h : Happening) : Type 0 where
   -- a live node answers asks and Fetches
-  pub asks : AsksAreAnswered h.before h.event h.letters
+  pub asks : AsksAreAnswered h.before h.event h.envelopes
   pub fetches : FetchesAreMet h
   -- who has a slot has a use for it, who was given or is busy has one, and none is free while something stands in the queue
   pub slots : AllSlotsAreRight h.after

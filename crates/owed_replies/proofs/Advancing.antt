@@ -19,23 +19,23 @@ use Rattle.event_log.specs.Words.{main_bearing, births, born_in, ended_in, ends_
 use Rattle.event_log.proofs.SaneLaws.{legal_logs_are_sane}
 use Rattle.event_log.proofs.WordLaws.{same_attempt-refl}
 use Rattle.protocol.specs.Messages.{EndedResult}
-use Rattle.protocol.specs.Messages.{Letter, letter, Message, Party, TheWorker, TheNode, Ask, Give, Elsewhere, Wait, Back, Push, Finished, FinishedAck, Failed}
+use Rattle.protocol.specs.Messages.{Envelope, envelope, Message, Endpoint, TheWorker, TheNode, Ask, Give, Elsewhere, Wait, Back, Push, Finished, FinishedAck, Failed}
 use Rattle.protocol.specs.Messages.{Where, At, Gone, Fetch, CopyOf, Missing, Hold, HoldAck, Unhold}
 use Rattle.protocol.specs.Numbered.{item_at}
-use Rattle.protocol.specs.Tables.{HasEnded, HasFaulted, Object, Out, Phase, Ready, Run, Waits, Worker}
-use Rattle.protocol.specs.Whole.{Moved, Whole, worker_at}
+use Rattle.protocol.specs.Tables.{HasEnded, HasFaulted, Object, Out, Phase, Ready, Execution, Waits, Worker}
+use Rattle.protocol.specs.Cluster.{Transition, ClusterState, worker_at}
 use Rattle.lease_discipline.specs.of_protocol_legal.Knows.{KnowsPhase, KnowsRun, KnowsWorker}
 use Rattle.lease_discipline.specs.of_protocol_legal.Made.{IsMade}
 use Rattle.lease_discipline.specs.of_protocol_legal.Past.{past}
 use Rattle.lease_discipline.specs.of_protocol_legal.Says.{Says}
 use Rattle.lease_discipline.specs.of_protocol_legal.Whole.{Between, setting_of}
 use Rattle.protocol_owed.specs.Replies.{IsRequest}
-use Rattle.protocol_owed.specs.Seen.{delivered_in, letters_by}
-use Rattle.protocol_owed.proofs.Letters.{among-append_cases, among-behind, among-more, among-nothing}
+use Rattle.protocol_owed.specs.Seen.{delivered_in, envelopes_by}
+use Rattle.protocol_owed.proofs.Envelopes.{among-append_cases, among-behind, among-more, among-nothing}
 use Rattle.protocol_owed.proofs.Nodes.{there_more}
 use Rattle.protocol_owed.specs.Told.{attempt_by}
 use Rattle.lease_discipline.specs.Told.{IsInStep}
-use Rattle.owed_replies.specs.Kept.{IsAwaitedBy, IsBornIn, IsGoingOn, IsOverInTime, IsReported, IsRightBetween, IsRightLetter, KeepsReplies, RunIsRight, came_by}
+use Rattle.owed_replies.specs.Kept.{IsAwaitedBy, IsBornIn, IsGoingOn, IsOverInTime, IsReported, IsRightBetween, IsRightEnvelope, KeepsReplies, RunIsRight, came_by}
 use Rattle.owed_replies.proofs.Objects.{Grows, IsGrown}
 
 -- ---- lists
@@ -53,7 +53,7 @@ module _ {X Y : Type 0} (f : X → List Y) where
     | inr j ↦ let r = flat_among xs y j in (r.0, (suc r.1.0, r.1.1), r.2)
   ]
 
-pub all_among : (P : Letter → Type 0) (ls : List Letter) (l : Letter) → AllByRecursion P ls → Among l ls → P l
+pub all_among : (P : Envelope → Type 0) (ls : List Envelope) (l : Envelope) → AllByRecursion P ls → Among l ls → P l
 all_among P [] l all (k, e) = absurd (cc)
 all_among P (x ∷ ls) l all (zero, e) = let same : x ≡ l = cc in subst P same all.0
 all_among P (x ∷ ls) l all (suc k, e) = all_among P ls l all.1 (k, e)
@@ -136,7 +136,7 @@ item_below {X} xs (suc i) some below = got xs i (omega (arith, below))
 
 -- ---- what is born is in its owner's table
 
-pub owner_has : (s : Setting) (log : List Entry) (c : Whole) → Between s log c → (y : Id) → IsBorn (births log) y → (x : Worker) → worker_at c y.owner ≡ Some x → x.is_live ≡ true →
+pub owner_has : (s : Setting) (log : List Entry) (c : ClusterState) → Between s log c → (y : Id) → IsBorn (births log) y → (x : Worker) → worker_at c y.owner ≡ Some x → x.is_live ≡ true →
     1 ≤ y.serial → (z : Object) × (item_at x.objects y.serial ≡ Some z)
 owner_has s log c b y born x at live some =
     let sane : Sane log = legal_logs_are_sane (setting_of s c) log b.legal in
@@ -146,19 +146,19 @@ owner_has s log c b y born x at live some =
     item_below x.objects y.serial some (omega (arith, below, next))
 
 -- a content that was made is of what was born
-pub made_born : (s : Setting) (log : List Entry) (c : Whole) → Between s log c → (y : Id) (number : ℕ) → IsMade log y number → IsBorn (births log) y
+pub made_born : (s : Setting) (log : List Entry) (c : ClusterState) → Between s log c → (y : Id) (number : ℕ) → IsMade log y number → IsBorn (births log) y
 made_born s log c b y number (n, inl p) = born_if_first (births log) y (Put p.value) p.born
 made_born s log c b y number (n, inr p) = (p.part, p.result.born)
 
 -- what is asked for was born
-pub request_born : (s : Setting) (log : List Entry) (c : Whole) → Between s log c → KeepsReplies log c → (v w : ℕ) (y : Id) (m : Message) →
-    Among (letter (TheWorker v) (TheWorker w) m) c.network → IsRequest y m → IsBorn (births log) y
+pub request_born : (s : Setting) (log : List Entry) (c : ClusterState) → Between s log c → KeepsReplies log c → (v w : ℕ) (y : Id) (m : Message) →
+    Among (envelope (TheWorker v) (TheWorker w) m) c.network → IsRequest y m → IsBorn (births log) y
 request_born s log c b k v w y m i (inl is) =
-    let r : IsRightLetter log (letter (TheWorker v) (TheWorker w) (Where y)) = subst (λ n. IsRightLetter log (letter (TheWorker v) (TheWorker w) n)) is (k.letters _ i) in
+    let r : IsRightEnvelope log (envelope (TheWorker v) (TheWorker w) (Where y)) = subst (λ n. IsRightEnvelope log (envelope (TheWorker v) (TheWorker w) n)) is (k.envelopes _ i) in
     r.2
 request_born s log c b k v w y m i (inr (number, n, is)) =
-    let told : Says (past log b.asked) (letter (TheWorker v) (TheWorker w) (Missing y number n)) =
-    subst (λ q. Says (past log b.asked) (letter (TheWorker v) (TheWorker w) q)) is (all_among (Says (past log b.asked)) c.network _ b.knows.told i) in
+    let told : Says (past log b.asked) (envelope (TheWorker v) (TheWorker w) (Missing y number n)) =
+    subst (λ q. Says (past log b.asked) (envelope (TheWorker v) (TheWorker w) q)) is (all_among (Says (past log b.asked)) c.network _ b.knows.told i) in
     made_born s log c b y number told.0
 
 -- what was born stays so
@@ -169,7 +169,7 @@ pub known_more : (log es : List Entry) (o : Id) → IsBorn (births log) o → Is
 known_more log es o (p, e) = (p, parts-more log es o p e)
 
 -- what is right beside a log is right beside more
-pub right_more : (p es : List Entry) (from to : Party) (m : Message) → IsRightBetween p from to m → IsRightBetween (p ++ es) from to m
+pub right_more : (p es : List Entry) (from to : Endpoint) (m : Message) → IsRightBetween p from to m → IsRightBetween (p ++ es) from to m
 right_more p es (TheWorker v) (TheWorker w) (Where y) r = (r.0, r.1, known_more p es y r.2)
 right_more p es (TheWorker v) (TheWorker w) (Hold e o) r = (r.0, born_more p es o r.1)
 right_more p es (TheWorker v) (TheWorker w) (Missing y number n) r = r
@@ -194,14 +194,14 @@ right_more p es (TheNode v) to m r = tt
 -- ---- an event
 
 -- a worker after the event is one of before, whose askers are kept in mind, or has no objects yet
-pub record IsOfOld (c : Whole) (w : ℕ) (y : Worker) : Type 0 where
+pub record IsOfOld (c : ClusterState) (w : ℕ) (y : Worker) : Type 0 where
   pub worker : Worker
   pub there : worker_at c w ≡ Some worker
   pub lived : worker.is_live ≡ true
   pub grows : Grows worker.objects y.objects
 
 -- the attempt is the present one of a live worker
-pub record IsPresent (c : Whole) (a : Attempt) : Type 0 where
+pub record IsPresent (c : ClusterState) (a : Attempt) : Type 0 where
   pub number : ℕ
   pub worker : Worker
   pub there : worker_at c number ≡ Some worker
@@ -209,7 +209,7 @@ pub record IsPresent (c : Whole) (a : Attempt) : Type 0 where
   pub present : attempt_by worker.run ≡ Some a
 
 -- the event brings the end of the attempt to a live worker
-pub record IsBrought (c : Whole) (e : Event) (a : Attempt) : Type 0 where
+pub record IsBrought (c : ClusterState) (e : Event) (a : Attempt) : Type 0 where
   pub number : ℕ
   pub sender : ℕ
   pub owner : ℕ
@@ -217,25 +217,25 @@ pub record IsBrought (c : Whole) (e : Event) (a : Attempt) : Type 0 where
   pub results : List EndedResult
   pub worker : Worker
   pub event : e ≡ Deliver number
-  pub sent : item_at c.network number ≡ Some (letter (TheWorker sender) (TheWorker owner) (Finished a node results))
+  pub sent : item_at c.network number ≡ Some (envelope (TheWorker sender) (TheWorker owner) (Finished a node results))
   pub there : worker_at c owner ≡ Some worker
   pub lives : worker.is_live ≡ true
 
--- what the event e makes of the whole c, with these entries and letters
-pub record Advances (log : List Entry) (c : Whole) (e : Event) (seat : ℕ) (m : Moved) : Type 0 where
-  pub network : m.whole.network ≡ c.network ++ m.out.letters
-  pub letters : (l : Letter) → Among l m.out.letters → IsRightLetter (log ++ In e seat ∷ m.out.entries) l
-  pub runs : (w : ℕ) (y : Worker) (run : Run) → worker_at m.whole w ≡ Some y → y.run ≡ Some run →
+-- what the event e makes of the whole c, with these entries and envelopes
+pub record Advances (log : List Entry) (c : ClusterState) (e : Event) (seat : ℕ) (m : Transition) : Type 0 where
+  pub network : m.whole.network ≡ c.network ++ m.out.envelopes
+  pub envelopes : (l : Envelope) → Among l m.out.envelopes → IsRightEnvelope (log ++ In e seat ∷ m.out.entries) l
+  pub runs : (w : ℕ) (y : Worker) (run : Execution) → worker_at m.whole w ≡ Some y → y.run ≡ Some run →
       RunIsRight (log ++ In e seat ∷ m.out.entries) m.whole.network w run × IsOverInTime run
   pub objects : (w : ℕ) (y : Worker) → worker_at m.whole w ≡ Some y → y.is_live ≡ true → IsOfOld c w y ⊎ (y.objects ≡ [])
-  pub asked : (k v : ℕ) (o : Id) (n : Message) → e ≡ Deliver k → item_at c.network k ≡ Some (letter (TheWorker v) (TheWorker o.owner) n) → IsRequest o n →
+  pub asked : (k v : ℕ) (o : Id) (n : Message) → e ≡ Deliver k → item_at c.network k ≡ Some (envelope (TheWorker v) (TheWorker o.owner) n) → IsRequest o n →
       (y : Worker) (z : Object) → worker_at m.whole o.owner ≡ Some y → y.is_live ≡ true → item_at y.objects o.serial ≡ Some z → IsAwaitedBy v z
   pub goes_on : (a : Attempt) → IsGoingOn c a → IsGoingOn m.whole a ⊎ IsPresent m.whole a
   pub ended : (a : Attempt) (b : List Outcome) → Among (Ended a b) m.out.entries → IsPresent m.whole a
   pub accepts : (a : Attempt) → Among (Accepted a) m.out.entries → IsBrought c e a
 
-module _ (s : Setting) (log : List Entry) (c : Whole) (e : Event) (seat : ℕ) (m : Moved) (before : IsInStep s log c)
-    (after : IsInStep s (log ++ In e seat ∷ m.out.entries) m.whole) (k : KeepsReplies log c) (sent : (i : ℕ) → e ≡ Deliver i → (l : Letter) × (item_at c.network i ≡ Some l))
+module _ (s : Setting) (log : List Entry) (c : ClusterState) (e : Event) (seat : ℕ) (m : Transition) (before : IsInStep s log c)
+    (after : IsInStep s (log ++ In e seat ∷ m.out.entries) m.whole) (k : KeepsReplies log c) (sent : (i : ℕ) → e ≡ Deliver i → (l : Envelope) × (item_at c.network i ≡ Some l))
     (accepted : accepted_events (log ++ In e seat ∷ m.out.entries) ≡ accepted_events log ++ e ∷ []) (a : Advances log c e seat m) where
   abbrev next : List Entry
   next = log ++ In e seat ∷ m.out.entries
@@ -246,12 +246,12 @@ module _ (s : Setting) (log : List Entry) (c : Whole) (e : Event) (seat : ℕ) (
   abbrev d : Between s next m.whole
   d = after.sound.between
 
-  right_still : (l : Letter) → IsRightLetter log l → IsRightLetter next l
+  right_still : (l : Envelope) → IsRightEnvelope log l → IsRightEnvelope next l
   right_still l r = right_more log (In e seat ∷ m.out.entries) l.sender l.receiver l.message r
 
   -- ---- attempts that ended
 
-  same_run : (x y : Run) → ◌≡◌ {A = Option Run} (Some x) (Some y) → x ≡ y
+  same_run : (x y : Execution) → ◌≡◌ {A = Option Execution} (Some x) (Some y) → x ≡ y
   same_run x y f = cc
 
   no_end : (f : Attempt) (x : List Outcome) → Among x (ends_of f next) → ends_of f next ≡ [] → ⊥
@@ -269,7 +269,7 @@ module _ (s : Setting) (log : List Entry) (c : Whole) (e : Event) (seat : ℕ) (
       ((w : ℕ) × IsReported m.whole.network w f) ⊎ IsGoingOn m.whole f
   settles f x i other p = by_run p.worker.run refl
     where
-      by_run : (r : Option Run) → p.worker.run ≡ r → ((w : ℕ) × IsReported m.whole.network w f) ⊎ IsGoingOn m.whole f
+      by_run : (r : Option Execution) → p.worker.run ≡ r → ((w : ℕ) × IsReported m.whole.network w f) ⊎ IsGoingOn m.whole f
       by_run None g = let h : attempt_by None ≡ Some f = ap attempt_by (sym g) ∙ p.present in absurd (cc)
       by_run (Some run) g =
           let same : run.attempt ≡ f = there (ap attempt_by (sym g) ∙ p.present) in
@@ -285,7 +285,7 @@ module _ (s : Setting) (log : List Entry) (c : Whole) (e : Event) (seat : ℕ) (
           there : ◌≡◌ {A = Option Attempt} (Some run.attempt) (Some f) → run.attempt ≡ f
           there h = cc
 
-          by_phase : (r : Run) → r.attempt ≡ f → RunIsRight next m.whole.network p.number r → Among x (ends_of r.attempt next) →
+          by_phase : (r : Execution) → r.attempt ≡ f → RunIsRight next m.whole.network p.number r → Among x (ends_of r.attempt next) →
               KnowsRun (setting_of s m.whole) next p.number p.worker r → (phase : Phase) → r.phase ≡ phase → r.is_over ≡ true → IsReported m.whole.network p.number f
           by_phase r same right here knows (HasEnded y) h over =
               subst (λ q. IsReported m.whole.network p.number q) same (right.told y h over (subst (λ q. same_attempt q main_attempt ≡ false) (sym same) other))
@@ -313,8 +313,8 @@ module _ (s : Setting) (log : List Entry) (c : Whole) (e : Event) (seat : ℕ) (
         (
           r.0,
           r.1,
-          subst (λ ls. Among (letter (TheWorker w) (TheWorker f.object.owner) (Finished f r.0 r.1)) ls) (sym a.network)
-              (among-more c.network m.out.letters _ r.2),
+          subst (λ ls. Among (envelope (TheWorker w) (TheWorker f.object.owner) (Finished f r.0 r.1)) ls) (sym a.network)
+              (among-more c.network m.out.envelopes _ r.2),
         ),
       )
       by_old (inr g) = elim (a.goes_on f g) [ inl h ↦ inr h | inr p ↦ settles f x i other p ]
@@ -325,16 +325,16 @@ module _ (s : Setting) (log : List Entry) (c : Whole) (e : Event) (seat : ℕ) (
 
   -- ---- whoever asked
 
-  item_still : (i : ℕ) (l : Letter) → item_at c.network i ≡ Some l → item_at m.whole.network i ≡ Some l
-  item_still i l g = ap (λ ls. item_at ls i) a.network ∙ there_more c.network m.out.letters i l g
+  item_still : (i : ℕ) (l : Envelope) → item_at c.network i ≡ Some l → item_at m.whole.network i ≡ Some l
+  item_still i l g = ap (λ ls. item_at ls i) a.network ∙ there_more c.network m.out.envelopes i l g
 
-  same_letter : (x y : Letter) → ◌≡◌ {A = Option Letter} (Some x) (Some y) → x ≡ y
-  same_letter x y f = cc
+  same_envelope : (x y : Envelope) → ◌≡◌ {A = Option Envelope} (Some x) (Some y) → x ≡ y
+  same_envelope x y f = cc
 
   -- what a delivery brought was in the network before
-  brought_by : (l : Letter) (i : ℕ) (u : Letter) → item_at c.network i ≡ Some u → Among l (delivered_in m.whole.network (Deliver i)) → item_at c.network i ≡ Some l
+  brought_by : (l : Envelope) (i : ℕ) (u : Envelope) → item_at c.network i ≡ Some u → Among l (delivered_in m.whole.network (Deliver i)) → item_at c.network i ≡ Some l
   brought_by l i u at j =
-      let f : delivered_in m.whole.network (Deliver i) ≡ u ∷ [] = ap letters_by (item_still i u at) in
+      let f : delivered_in m.whole.network (Deliver i) ≡ u ∷ [] = ap envelopes_by (item_still i u at) in
       let same : l ≡ u = only (subst (λ ls. Among l ls) f j) in
       at ∙ ap (λ x. Some x) (sym same)
     where
@@ -342,8 +342,8 @@ module _ (s : Setting) (log : List Entry) (c : Whole) (e : Event) (seat : ℕ) (
       only (zero, g) = cc
       only (suc n, g) = absurd (cc)
 
-  -- an event that brings a letter is its delivery
-  brings : (f : Event) (l : Letter) (net : List Letter) → Among l (delivered_in net f) → (i : ℕ) × (f ≡ Deliver i)
+  -- an event that brings a envelope is its delivery
+  brings : (f : Event) (l : Envelope) (net : List Envelope) → Among l (delivered_in net f) → (i : ℕ) × (f ≡ Deliver i)
   brings (Deliver i) l net j = (i, refl)
   brings (Claim w) l net j = absurd (among-nothing l j)
   brings (Commit i) l net j = absurd (among-nothing l j)
@@ -360,27 +360,27 @@ module _ (s : Setting) (log : List Entry) (c : Whole) (e : Event) (seat : ℕ) (
   positive xs zero z f = absurd (cc)
   positive xs (suc n) z f = omega arith
 
-  among_item : (i : ℕ) (l : Letter) → item_at c.network i ≡ Some l → Among l c.network
+  among_item : (i : ℕ) (l : Envelope) → item_at c.network i ≡ Some l → Among l c.network
   among_item zero l f = absurd (cc)
   among_item (suc i) l f = (i, f)
 
-  askers_still : (v : ℕ) (y : Id) (n : Message) → Among (letter (TheWorker v) (TheWorker y.owner) n) (came_by m.whole.network next) → IsRequest y n →
+  askers_still : (v : ℕ) (y : Id) (n : Message) → Among (envelope (TheWorker v) (TheWorker y.owner) n) (came_by m.whole.network next) → IsRequest y n →
       (x : Worker) (z : Object) → worker_at m.whole y.owner ≡ Some x → x.is_live ≡ true → item_at x.objects y.serial ≡ Some z → IsAwaitedBy v z
   askers_still v y n i is x z at live there =
-      let l : Letter = letter (TheWorker v) (TheWorker y.owner) n in
+      let l : Envelope = envelope (TheWorker v) (TheWorker y.owner) n in
       let r = flat_among (delivered_in m.whole.network) (accepted_events next) l i in
       elim (among-append_cases (accepted_events log) (e ∷ []) r.0 (subst (λ es. Among r.0 es) accepted r.1)) [
         | inl old ↦ by_old r.0 old r.2
         | inr new ↦ by_new r.0 new r.2
       ]
     where
-      by_old : (f : Event) → Among f (accepted_events log) → Among (letter (TheWorker v) (TheWorker y.owner) n) (delivered_in m.whole.network f) → IsAwaitedBy v z
+      by_old : (f : Event) → Among f (accepted_events log) → Among (envelope (TheWorker v) (TheWorker y.owner) n) (delivered_in m.whole.network f) → IsAwaitedBy v z
       by_old f old j =
-          let l : Letter = letter (TheWorker v) (TheWorker y.owner) n in
+          let l : Envelope = envelope (TheWorker v) (TheWorker y.owner) n in
           let q = brings f l m.whole.network j in
           let u = k.delivered q.0 (subst (λ g. Among g (accepted_events log)) q.1 old) in
           let was : item_at c.network q.0 ≡ Some l = brought_by l q.0 u.0 u.1 (subst (λ g. Among l (delivered_in m.whole.network g)) q.1 j) in
-          let brought : Among l (delivered_in c.network (Deliver q.0)) = subst (λ o. Among l (letters_by o)) (sym was) (zero, refl) in
+          let brought : Among l (delivered_in c.network (Deliver q.0)) = subst (λ o. Among l (envelopes_by o)) (sym was) (zero, refl) in
           let came : Among l (came_by c.network log) = among_flat (delivered_in c.network) (accepted_events log) (Deliver q.0) l (subst (λ g. Among g (accepted_events log)) q.1 old) brought in
           let born : IsBorn (births log) y = request_born s log c b k v y.owner y n (among_item q.0 l was) is in
           elim (a.objects y.owner x at live) [
@@ -388,7 +388,7 @@ module _ (s : Setting) (log : List Entry) (c : Whole) (e : Event) (seat : ℕ) (
             | inr none ↦ empty none
           ]
         where
-          by_worker : IsOfOld c y.owner x → Among (letter (TheWorker v) (TheWorker y.owner) n) (came_by c.network log) → IsBorn (births log) y → IsAwaitedBy v z
+          by_worker : IsOfOld c y.owner x → Among (envelope (TheWorker v) (TheWorker y.owner) n) (came_by c.network log) → IsBorn (births log) y → IsAwaitedBy v z
           by_worker o came born =
               let w = owner_has s log c b y born o.worker o.there o.lived (positive x.objects y.serial z there) in
               let awaited : IsAwaitedBy v w.0 = k.askers v y n came is o.worker w.0 o.there o.lived w.1 in
@@ -406,17 +406,17 @@ module _ (s : Setting) (log : List Entry) (c : Whole) (e : Event) (seat : ℕ) (
               nothing_there zero f = absurd (cc)
               nothing_there (suc j) f = absurd (cc)
 
-      by_new : (f : Event) → Among f (e ∷ []) → Among (letter (TheWorker v) (TheWorker y.owner) n) (delivered_in m.whole.network f) → IsAwaitedBy v z
+      by_new : (f : Event) → Among f (e ∷ []) → Among (envelope (TheWorker v) (TheWorker y.owner) n) (delivered_in m.whole.network f) → IsAwaitedBy v z
       by_new f (suc j, g) i = absurd (cc)
       by_new f (zero, g) i =
           let same : e ≡ f = cc in
-          let l : Letter = letter (TheWorker v) (TheWorker y.owner) n in
+          let l : Envelope = envelope (TheWorker v) (TheWorker y.owner) n in
           let q = brings f l m.whole.network i in
           let is_delivery : e ≡ Deliver q.0 = same ∙ q.1 in
           let u = sent q.0 is_delivery in
           a.asked q.0 v y n is_delivery (brought_by l q.0 u.0 u.1 (subst (λ h. Among l (delivered_in m.whole.network h)) q.1 i)) is x z at live there
 
-  delivered_still : (i : ℕ) → Among (Deliver i) (accepted_events next) → (l : Letter) × (item_at m.whole.network i ≡ Some l)
+  delivered_still : (i : ℕ) → Among (Deliver i) (accepted_events next) → (l : Envelope) × (item_at m.whole.network i ≡ Some l)
   delivered_still i j = elim (among-append_cases (accepted_events log) (e ∷ []) (Deliver i) (subst (λ es. Among (Deliver i) es) accepted j)) [
     | inl old ↦ let u = k.delivered i old in (u.0, item_still i u.0 u.1)
     | inr new ↦ let u = sent i (only new) in (u.0, item_still i u.0 u.1)
@@ -428,9 +428,9 @@ module _ (s : Setting) (log : List Entry) (c : Whole) (e : Event) (seat : ℕ) (
 
   pub advanced : KeepsReplies next m.whole
   advanced = record {
-    letters = λ l i. elim (among-append_cases c.network m.out.letters l (subst (λ ls. Among l ls) a.network i)) [
-      | inl old ↦ right_still l (k.letters l old)
-      | inr new ↦ a.letters l new
+    envelopes = λ l i. elim (among-append_cases c.network m.out.envelopes l (subst (λ ls. Among l ls) a.network i)) [
+      | inl old ↦ right_still l (k.envelopes l old)
+      | inr new ↦ a.envelopes l new
     ];
     runs = λ w x run at is. (a.runs w x run at is).0;
     in_time = λ w x run at is. (a.runs w x run at is).1;

@@ -16,10 +16,10 @@ use Rattle.protocol.specs.Places.{needs_by, needs_own, needs_own_if_waiting, nee
 use Rattle.protocol.specs.Recovery.{recovers}
 use Rattle.protocol.specs.Runs.{fetches, gets, with_answer, with_fetching, with_fetching_at, with_fetching_by}
 use Rattle.protocol.specs.Sets.{has, is_empty}
-use Rattle.protocol.specs.Steps.{Here, changes, each_from, logs, object_at, own_id, own_object, says, store_here, with_phase, with_run, with_store}
+use Rattle.protocol.specs.Steps.{WorkerContext, changes, each_from, logs, object_at, own_id, own_object, says, store_here, with_phase, with_run, with_store}
 use Rattle.protocol.specs.Stores.{Copy, Store, brought_to_front, copy_in, is_copy_of, looked_up}
 use Rattle.protocol.specs.Tables.{has_content, HasEnded, HasFaulted, is_lost, is_nowhere, is_same_id, is_waiting_for, live_place, needed_by, Object}
-use Rattle.protocol.specs.Tables.{object_needed, Out, Phase, places_for, Ready, Run, settled_number, Waits, without_askers, Worker}
+use Rattle.protocol.specs.Tables.{object_needed, Out, Phase, places_for, Ready, Execution, settled_number, Waits, without_askers, Worker}
 use Rattle.smallest_steps.proofs.Known.{changed_here, own_here, somewhere}
 use Rattle.smallest_steps.proofs.Over.{each_from-kept}
 use Rattle.smallest_steps.proofs.SlotMoves as S
@@ -27,7 +27,7 @@ use Rattle.smallest_steps.proofs.SlotMoves as S
 -- ---- the owner looks for a content that is there
 
 -- what is found is answered, else fetched
-module _ (R : Here → Type 0) (g : Here) (y : Id) (z : Object) (run : Run) (number n : ℕ) (at : g.worker.run ≡ Some run) (item : object_at g y ≡ Some z)
+module _ (R : WorkerContext → Type 0) (g : WorkerContext) (y : Id) (z : Object) (run : Execution) (number n : ℕ) (at : g.worker.run ≡ Some run) (item : object_at g y ≡ Some z)
     (unfaulted : z.fault ≡ None) (whole : has_content z ≡ true) (number_is : settled_number z ≡ number) (place : z.kept ≡ None → z.places ≡ n ∷ [])
     (no_dead : g.worker.dead_nodes ≡ []) (stored : z.kept ≡ None → n ≡ g.worker.node → (d : Outcome) × (copy_in (store_here g) y number ≡ Some d))
     (keeps : (f : Id) → f ≡ y → (d : Outcome) → R (gets (with_phase g run (Waits f None)) d))
@@ -35,7 +35,7 @@ module _ (R : Here → Type 0) (g : Here) (y : Id) (z : Object) (run : Run) (num
     (asks : (f : Id) → f ≡ y → (m : ℕ) → R (fetches (with_phase g run (Waits f None)) y (settled_number z) m)) where
   looks_at : z.kept ≡ None → (f : Id) → f ≡ y → R (looks_at_places (with_phase g run (Waits f None)) y z)
   looks_at none f is =
-      let h : Here = with_phase g run (Waits f None) in
+      let h : WorkerContext = with_phase g run (Waits f None) in
       subst (λ ns. R (if has ns g.worker.node then looks_here_by h y z (copy_in (store_here g) y (settled_number z)) else looks_elsewhere_by h y z (live_place h.worker ns)))
       (sym (place none))
       (at_test (λ t. has (n ∷ []) g.worker.node ≡ t →
@@ -84,7 +84,7 @@ module _ (R : Here → Type 0) (g : Here) (y : Id) (z : Object) (run : Run) (num
 -- ---- what it leaves
 
 -- objects, deaths and primary copies are as they were
-pub record IsSame (h g : Here) : Type 0 where
+pub record IsSame (h g : WorkerContext) : Type 0 where
   pub me : g.me ≡ h.me
   pub node : g.worker.node ≡ h.worker.node
   pub dead : g.worker.dead_nodes ≡ h.worker.dead_nodes
@@ -94,7 +94,7 @@ pub record IsSame (h g : Here) : Type 0 where
 there_same : (cs : List Copy) → S.KeepsSlots (λ t. t.node.store.primaries ≡ cs)
 there_same cs = record { opens = λ t w p. p; replies = λ t k x p. p; scheduler = λ t s p. p }
 
-gets_same : (h : Here) (run : Run) (f : Id) (d : Outcome) → IsSame h (gets (with_phase h run (Waits f None)) d)
+gets_same : (h : WorkerContext) (run : Execution) (f : Id) (d : Outcome) → IsSame h (gets (with_phase h run (Waits f None)) d)
 gets_same h run f d = record {
   me = refl;
   node = refl;
@@ -113,7 +113,7 @@ looked_same s o number =
     front None = refl
     front (Some x) = refl
 
-finds_same : (h : Here) (run : Run) (f : Id) (o : Id) (number : ℕ) (d : Outcome) →
+finds_same : (h : WorkerContext) (run : Execution) (f : Id) (o : Id) (number : ℕ) (d : Outcome) →
     IsSame h (gets (with_store (with_phase h run (Waits f None)) (looked_up (store_here h) o number)) d)
 finds_same h run f o number d = record {
   me = refl;
@@ -125,20 +125,20 @@ finds_same h run f o number d = record {
       (looked_same (store_here h) o number);
 }
 
-fetches_same : (h : Here) (run : Run) (f : Id) (o : Id) (number m : ℕ) → IsSame h (fetches (with_phase h run (Waits f None)) o number m)
+fetches_same : (h : WorkerContext) (run : Execution) (f : Id) (o : Id) (number m : ℕ) → IsSame h (fetches (with_phase h run (Waits f None)) o number m)
 fetches_same h run f o number m = record { me = refl; node = refl; dead = refl; objects = refl; primaries = refl }
 
 -- ---- telling places leaves the worker and its node
 
-pub tells-worker : (h : Here) (ws : List ℕ) (o : Id) (x : Object) → (tells_places h ws o x).worker ≡ h.worker
+pub tells-worker : (h : WorkerContext) (ws : List ℕ) (o : Id) (x : Object) → (tells_places h ws o x).worker ≡ h.worker
 tells-worker h [] o x = refl
 tells-worker h (w ∷ ws) o x = tells-worker (says h w _) ws o x
 
-pub tells-me : (h : Here) (ws : List ℕ) (o : Id) (x : Object) → (tells_places h ws o x).me ≡ h.me
+pub tells-me : (h : WorkerContext) (ws : List ℕ) (o : Id) (x : Object) → (tells_places h ws o x).me ≡ h.me
 tells-me h [] o x = refl
 tells-me h (w ∷ ws) o x = tells-me (says h w _) ws o x
 
-pub tells-node : (h : Here) (ws : List ℕ) (o : Id) (x : Object) → (tells_places h ws o x).there.node ≡ h.there.node
+pub tells-node : (h : WorkerContext) (ws : List ℕ) (o : Id) (x : Object) → (tells_places h ws o x).there.node ≡ h.there.node
 tells-node h [] o x = refl
 tells-node h (w ∷ ws) o x = tells-node (says h w _) ws o x
 
@@ -157,7 +157,7 @@ primary_found s o number e =
 -- ---- one object
 
 -- it has the content of that number: its owner keeps it, or it is at that node, which has a primary copy if it is the owner's own
-pub record IsThere (g : Here) (number n k : ℕ) (z : Object) : Type 0 where
+pub record IsThere (g : WorkerContext) (number n k : ℕ) (z : Object) : Type 0 where
   pub unfaulted : z.fault ≡ None
   pub kept : z.is_released ≡ false
   pub settled : z.settled ≡ Some number
@@ -166,7 +166,7 @@ pub record IsThere (g : Here) (number n k : ℕ) (z : Object) : Type 0 where
   pub keeps : z.kept ≡ content
   pub stored : content ≡ None → n ≡ g.worker.node → list_any (is_copy_of (own_id g k) number) (store_here g).primaries ≡ true
 
-there_whole : (g : Here) (number n k : ℕ) (z : Object) → IsThere g number n k z → has_content z ≡ true
+there_whole : (g : WorkerContext) (number n k : ℕ) (z : Object) → IsThere g number n k z → has_content z ≡ true
 there_whole g number n k z t =
     ap (λ o. is_some o && is_none z.fault && not z.is_released && not (is_nowhere z)) t.settled ∙
     ap (λ o. true && is_none o && not z.is_released && not (is_nowhere z)) t.unfaulted ∙
@@ -176,7 +176,7 @@ there_whole g number n k z t =
     ap (λ b. true && true && true && not b) (somewhere n t.content)
 
 -- what an answer to object k leaves
-pub record Leaves (h g : Here) (k : ℕ) : Type 0 where
+pub record Leaves (h g : WorkerContext) (k : ℕ) : Type 0 where
   pub me : g.me ≡ h.me
   pub node : g.worker.node ≡ h.worker.node
   pub dead : g.worker.dead_nodes ≡ h.worker.dead_nodes
@@ -192,17 +192,17 @@ other_row xs k i f apart = by_item (item_at (changed_at xs k f) i) refl (item_at
     by_item (Some y) e p g = elim (changed_cases xs k i f y e) [ inl (same, _, _, _) ↦ absurd (apart same) | inr (_, at) ↦ e ∙ sym at ]
     by_item None e (Some x) g = let y = there_still xs k i f x g in let q : ◌≡◌ {A = Option Object} None (Some y.0) = sym e ∙ y.1 in absurd (cc)
 
-own_now : (h : Here) (k : ℕ) (f : Object → Object) (z : Object) → own_object h k ≡ Some z → object_at (changes h (own_id h k) f) (own_id h k) ≡ Some (f z)
+own_now : (h : WorkerContext) (k : ℕ) (f : Object → Object) (z : Object) → own_object h k ≡ Some z → object_at (changes h (own_id h k) f) (own_id h k) ≡ Some (f z)
 own_now h k f z at = own_here (changes h (own_id h k) f) k ∙ changed_here h.worker.objects k f z at
 
-module _ (h : Here) (number n k : ℕ) (z : Object) (at : own_object h k ≡ Some z) (there : IsThere h number n k z) (no_dead : h.worker.dead_nodes ≡ []) where
+module _ (h : WorkerContext) (number n k : ℕ) (z : Object) (at : own_object h k ≡ Some z) (there : IsThere h number n k z) (no_dead : h.worker.dead_nodes ≡ []) where
   abbrev o : Id
   o = own_id h k
 
-  abbrev cleared : Here
+  abbrev cleared : WorkerContext
   cleared = changes h o without_askers
 
-  abbrev told : Here
+  abbrev told : WorkerContext
   told = tells_places cleared z.askers o z
 
   same : told.worker ≡ cleared.worker
@@ -233,7 +233,7 @@ module _ (h : Here) (number n k : ℕ) (z : Object) (at : own_object h k ≡ Som
   pub dead_still : told.worker.dead_nodes ≡ []
   dead_still = ap (λ (x : Worker). x.dead_nodes) same ∙ no_dead
 
-  leaves_told : (g : Here) → IsSame told g → (is_waiting_for h.worker o ≡ false → g.worker.run ≡ h.worker.run) → Leaves h g k
+  leaves_told : (g : WorkerContext) → IsSame told g → (is_waiting_for h.worker o ≡ false → g.worker.run ≡ h.worker.run) → Leaves h g k
   leaves_told g s runs = record {
     me = s.me ∙ me_same;
     node = s.node ∙ ap (λ (x : Worker). x.node) same;
@@ -243,7 +243,7 @@ module _ (h : Here) (number n k : ℕ) (z : Object) (at : own_object h k ≡ Som
     runs = runs;
   }
 
-  looked_for : (run : Run) → told.worker.run ≡ Some run → object_needed run.phase ≡ Some o → IsSame told (needs_own_if_waiting told o)
+  looked_for : (run : Execution) → told.worker.run ≡ Some run → object_needed run.phase ≡ Some o → IsSame told (needs_own_if_waiting told o)
   looked_for run is needs =
       owner_looks (IsSame told) told o (without_askers z) run number n is told_item there.unfaulted whole_still (ap (λ s. unwrap_or s 0) there.settled) place_is
       dead_still stored_there (λ f _ d. gets_same told run f d) (λ f _ d. finds_same told run f o (settled_number z) d)
@@ -264,7 +264,7 @@ module _ (h : Here) (number n k : ℕ) (z : Object) (at : own_object h k ≡ Som
           was : is_waiting_for told.worker o ≡ is_waiting_for h.worker o
           was = ap (λ (x : Worker). is_waiting_for x o) same
 
-          by_run : (r : Option Run) → told.worker.run ≡ r → is_same_id (needed_by r) o ≡ true → Leaves h (needs_own told o) k
+          by_run : (r : Option Execution) → told.worker.run ≡ r → is_same_id (needed_by r) o ≡ true → Leaves h (needs_own told o) k
           by_run None e f = absurd (cc)
           by_run (Some run) e f = by_need (object_needed run.phase) refl f
             where
@@ -279,7 +279,7 @@ module _ (h : Here) (number n k : ℕ) (z : Object) (at : own_object h k ≡ Som
 -- ---- all of them
 
 -- what is there is there for all that an answer leaves
-there_after : (h g : Here) (number n k i : ℕ) (z : Object) → Leaves h g k → IsThere h number n i z → IsThere g number n i z
+there_after : (h g : WorkerContext) (number n k i : ℕ) (z : Object) → Leaves h g k → IsThere h number n i z → IsThere g number n i z
 there_after h g number n k i z l t = record {
   unfaulted = t.unfaulted;
   kept = t.kept;
@@ -292,17 +292,17 @@ there_after h g number n k i z l t = record {
       ap (λ cs. list_any (is_copy_of (own_id h i) number) cs) l.primaries ∙ t.stored none (home ∙ l.node);
 }
 
-abbrev AreThere : Here → ℕ → ℕ → ℕ → ℕ → Type 0
+abbrev AreThere : WorkerContext → ℕ → ℕ → ℕ → ℕ → Type 0
 AreThere h number n k count = (i : ℕ) → k ≤ i → i < k + count → (z : Object) → own_object h i ≡ Some z → IsThere h number n i z
 
 -- each but the first, once that was answered
-still_there : (h : Here) (number n k count : ℕ) → AreThere h number n k (suc count) → Leaves h (answers_settled h (own_id h k)) k →
+still_there : (h : WorkerContext) (number n k count : ℕ) → AreThere h number n k (suc count) → Leaves h (answers_settled h (own_id h k)) k →
     AreThere (answers_settled h (own_id h k)) number n (k + 1) count
 still_there h number n k count all l i low high z at =
     there_after h (answers_settled h (own_id h k)) number n k i z l
     (all i (omega (arith, low)) (omega (arith, high)) z (sym (l.others i (λ e. omega (arith, low, e))) ∙ at))
 
-answered_row : (h : Here) (number n k count : ℕ) → AreThere h number n k (suc count) → h.worker.dead_nodes ≡ [] → Leaves h (answers_settled h (own_id h k)) k
+answered_row : (h : WorkerContext) (number n k count : ℕ) → AreThere h number n k (suc count) → h.worker.dead_nodes ≡ [] → Leaves h (answers_settled h (own_id h k)) k
 answered_row h number n k count all no_dead = by_object (own_object h k) refl
   where
     by_object : (x : Option Object) → own_object h k ≡ x → Leaves h (answers_settled h (own_id h k)) k
@@ -312,10 +312,10 @@ answered_row h number n k count all no_dead = by_object (own_object h k) refl
 
 -- whatever comes of the answer to one of them, in a state in which it is as it was, stays so to the end; and what is true of the run, if no answer
 -- before changes that
-pub rows_answered : (Q : Here → Type 0) → ((h : Here) (o : Id) → Q h → Q (answers_settled h o)) → (W : Option Run → Type 0) → (me number n t : ℕ) (z : Object) →
-    ((h g : Here) (i : ℕ) → h.me ≡ me → i ≢ t → Leaves h g i → W h.worker.run → W g.worker.run) →
-    ((h : Here) → h.me ≡ me → own_object h t ≡ Some z → IsThere h number n t z → h.worker.dead_nodes ≡ [] → W h.worker.run → Q (answers_settled h (own_id h t))) →
-    (count : ℕ) (h : Here) (k : ℕ) → k ≤ t → t < k + count → h.me ≡ me → own_object h t ≡ Some z → AreThere h number n k count → h.worker.dead_nodes ≡ [] →
+pub rows_answered : (Q : WorkerContext → Type 0) → ((h : WorkerContext) (o : Id) → Q h → Q (answers_settled h o)) → (W : Option Execution → Type 0) → (me number n t : ℕ) (z : Object) →
+    ((h g : WorkerContext) (i : ℕ) → h.me ≡ me → i ≢ t → Leaves h g i → W h.worker.run → W g.worker.run) →
+    ((h : WorkerContext) → h.me ≡ me → own_object h t ≡ Some z → IsThere h number n t z → h.worker.dead_nodes ≡ [] → W h.worker.run → Q (answers_settled h (own_id h t))) →
+    (count : ℕ) (h : WorkerContext) (k : ℕ) → k ≤ t → t < k + count → h.me ≡ me → own_object h t ≡ Some z → AreThere h number n k count → h.worker.dead_nodes ≡ [] →
     W h.worker.run → Q (each_from (λ g i. answers_settled g (own_id g i)) h k count)
 rows_answered Q stays W me number n t z others answered zero h k low high is at all no_dead runs = absurd (omega (arith, low, high))
 rows_answered Q stays W me number n t z others answered (suc count) h k low high is at all no_dead runs =

@@ -9,14 +9,14 @@ use Rattle.event_log.specs.Entries.{Accepted, Attempt, Begun, Born, Ended, Entry
 use Rattle.event_log.specs.Rules.{Setting}
 use Rattle.event_log.specs.Words.{attempt, ended_in, same_attempt}
 use Rattle.event_log.proofs.WordLaws.{same_attempt-true}
-use Rattle.protocol.specs.Messages.{At, Letter, TheWorker, letter}
-use Rattle.protocol.specs.Whole.{Whole}
+use Rattle.protocol.specs.Messages.{At, Envelope, TheWorker, envelope}
+use Rattle.protocol.specs.Cluster.{ClusterState}
 use Rattle.lease_discipline.specs.of_protocol_legal.Made.{IsCarried, IsCopy}
 use Rattle.lease_discipline.specs.of_protocol_legal.Past.{past}
 use Rattle.lease_discipline.specs.of_protocol_legal.Says.{Says}
 use Rattle.lease_discipline.specs.of_protocol_legal.Whole.{Between}
 use Rattle.protocol_owed.specs.Seen.{IsContentOf}
-use Rattle.protocol_owed.proofs.Letters.{among-behind, among-nothing}
+use Rattle.protocol_owed.proofs.Envelopes.{among-behind, among-nothing}
 use Rattle.owed_replies.proofs.Advancing.{all_among, flat_among}
 
 pub ended_entry : (es : List Entry) (a : Attempt) (c : List Outcome) → Among c (flat_map (ended_in a) es) → Among (Ended a c) es
@@ -57,19 +57,19 @@ carried_known log y number None is c e = absurd (cc)
 carried_known log y number (Some d) is c e = let same : d ≡ c = cc in copy_known log y number c (subst (IsCopy log y number) same is)
 
 -- what comes with a place that was ever sent is the object's content
-pub sent_known : (s : Setting) (log : List Entry) (c : Whole) → Between s log c → (v w number : ℕ) (y : Id) (nodes : List ℕ) (kept : Option Outcome) →
-    Among (letter (TheWorker v) (TheWorker w) (At y number nodes kept)) c.network → (d : Outcome) → kept ≡ Some d → IsContentOf log y number d
+pub sent_known : (s : Setting) (log : List Entry) (c : ClusterState) → Between s log c → (v w number : ℕ) (y : Id) (nodes : List ℕ) (kept : Option Outcome) →
+    Among (envelope (TheWorker v) (TheWorker w) (At y number nodes kept)) c.network → (d : Outcome) → kept ≡ Some d → IsContentOf log y number d
 sent_known s log c b v w number y nodes kept sent =
     carried_known log y number kept
-    (all_among (Says (past log b.asked)) c.network (letter (TheWorker v) (TheWorker w) (At y number nodes kept)) b.knows.told sent).1
+    (all_among (Says (past log b.asked)) c.network (envelope (TheWorker v) (TheWorker w) (At y number nodes kept)) b.knows.told sent).1
 
 -- what comes with each place among these is the object's content
-abbrev pub AtsAreKnown : List Entry → List Letter → Type 0
-AtsAreKnown log letters =
-    (v w number : ℕ) (y : Id) (nodes : List ℕ) (kept : Option Outcome) → Among (letter (TheWorker v) (TheWorker w) (At y number nodes kept)) letters →
+abbrev pub AtsAreKnown : List Entry → List Envelope → Type 0
+AtsAreKnown log envelopes =
+    (v w number : ℕ) (y : Id) (nodes : List ℕ) (kept : Option Outcome) → Among (envelope (TheWorker v) (TheWorker w) (At y number nodes kept)) envelopes →
     (d : Outcome) → kept ≡ Some d → IsContentOf log y number d
 
-pub sent_are_known : (s : Setting) (log : List Entry) (c d : Whole) (letters : List Letter) → Between s log d → d.network ≡ c.network ++ letters → AtsAreKnown log letters
-sent_are_known s log c d letters b network v w number y nodes kept sent =
+pub sent_are_known : (s : Setting) (log : List Entry) (c d : ClusterState) (envelopes : List Envelope) → Between s log d → d.network ≡ c.network ++ envelopes → AtsAreKnown log envelopes
+sent_are_known s log c d envelopes b network v w number y nodes kept sent =
     sent_known s log d b v w number y nodes kept
-    (subst (λ ls. Among (letter (TheWorker v) (TheWorker w) (At y number nodes kept)) ls) (sym network) (among-behind c.network letters _ sent))
+    (subst (λ ls. Among (envelope (TheWorker v) (TheWorker w) (At y number nodes kept)) ls) (sym network) (among-behind c.network envelopes _ sent))

@@ -20,51 +20,51 @@ use Rattle.event_log.specs.Laws.{HasItsNeeds}
 use Rattle.protocol.specs.Answers.{Answer, Refuses, Step, Takes, answer, decided, takes}
 use Rattle.protocol.specs.Deliveries.{reached}
 use Rattle.protocol.specs.Events.{delivered, delivered_by, is_live_worker, with_delivered}
-use Rattle.protocol.specs.Jobs.{Handed, Job}
-use Rattle.protocol.specs.Messages.{Letter, Message, Party, TheWorker, letter}
+use Rattle.protocol.specs.Jobs.{CommitInput, Job}
+use Rattle.protocol.specs.Messages.{Envelope, Message, Endpoint, TheWorker, envelope}
 use Rattle.protocol.specs.Nodes.{Node, Outbox}
 use Rattle.protocol.specs.Numbered.{item_at}
 use Rattle.protocol.specs.Refusals.{is_within_limits, refusal, unless}
 use Rattle.protocol.specs.Releases.{release_step}
-use Rattle.protocol.specs.Steps.{Here}
+use Rattle.protocol.specs.Steps.{WorkerContext}
 use Rattle.protocol.specs.Tables.{Worker}
-use Rattle.protocol.specs.Whole.{Moved, Whole, here, moved, node_at, worker_at, worker_does, worker_does_at, worker_does_by}
+use Rattle.protocol.specs.Cluster.{Transition, ClusterState, here, moved, node_at, worker_at, worker_does, worker_does_at, worker_does_by}
 use Rattle.lease_discipline.specs.of_protocol_legal.Whole.{Between}
 use Rattle.protocol_owed.specs.Seen.{IsCalm}
-use Rattle.protocol_owed.proofs.Letters.{among-nothing}
+use Rattle.protocol_owed.proofs.Envelopes.{among-nothing}
 use Rattle.lease_discipline.proofs.Told.{lives_there}
 use Rattle.owed_replies.specs.Kept.{IsBornIn}
 use Rattle.owed_replies.proofs.Quiet.{opened_lives}
 
 -- ---- what is taken
 
-pub record IsOut (m : Moved) (step : Step) : Type 0 where
+pub record IsOut (m : Transition) (step : Step) : Type 0 where
   pub entries : step.entries ≡ m.out.entries
-  pub letters : step.letters ≡ m.out.letters
+  pub envelopes : step.envelopes ≡ m.out.envelopes
 
-pub taken_out : (m : Moved) (given : Option Job) (b : Bool) (step : Step) → (if b then takes m given else Refuses Limit) ≡ Takes step → IsOut m step
-taken_out m given true step e = record { entries = sym (ap entries_in e); letters = sym (ap letters_in e) }
+pub taken_out : (m : Transition) (given : Option Job) (b : Bool) (step : Step) → (if b then takes m given else Refuses Limit) ≡ Takes step → IsOut m step
+taken_out m given true step e = record { entries = sym (ap entries_in e); envelopes = sym (ap envelopes_in e) }
   where
     entries_in : Answer → List Entry
     entries_in (Takes s) = s.entries
     entries_in (Refuses code) = []
 
-    letters_in : Answer → List Letter
-    letters_in (Takes s) = s.letters
-    letters_in (Refuses code) = []
+    envelopes_in : Answer → List Envelope
+    envelopes_in (Takes s) = s.envelopes
+    envelopes_in (Refuses code) = []
 taken_out m given false step e = absurd (cc)
 
 -- a delivery to a live worker
-module _ (c : Whole) (i : ℕ) (handed : Handed) (step : Step) (from : Party) (w : ℕ) (m : Message) (x : Worker) (node : Node)
-    (sent : item_at c.network i ≡ Some (letter from (TheWorker w) m)) (at : worker_at c w ≡ Some x) (live : x.is_live ≡ true) (home : node_at c x.node ≡ Some node)
+module _ (c : ClusterState) (i : ℕ) (handed : CommitInput) (step : Step) (from : Endpoint) (w : ℕ) (m : Message) (x : Worker) (node : Node)
+    (sent : item_at c.network i ≡ Some (envelope from (TheWorker w) m)) (at : worker_at c w ≡ Some x) (live : x.is_live ≡ true) (home : node_at c x.node ≡ Some node)
     (answered : answer c (Deliver i) handed ≡ Takes step) where
-  abbrev pub received : Here
+  abbrev pub received : WorkerContext
   received = release_step (reached (here c w x node) from m)
 
-  pub delivered_out : (step.entries ≡ received.there.out.entries) × (step.letters ≡ received.there.out.letters)
+  pub delivered_out : (step.entries ≡ received.there.out.entries) × (step.envelopes ≡ received.there.out.envelopes)
   delivered_out =
-      let d : Whole = with_delivered c i in
-      let f : Here → Here = λ h. reached h from m in
+      let d : ClusterState = with_delivered c i in
+      let f : WorkerContext → WorkerContext = λ h. reached h from m in
       let unrefused : refusal c (Deliver i) handed ≡ None = ap (λ y. unless (is_some y) NoMessage) sent in
       let g : (if is_within_limits (delivered c i).whole then takes (delivered c i) None else Refuses Limit) ≡ Takes step = ap (decided c (Deliver i) handed) (sym unrefused) ∙ answered in
       let out : (delivered c i).out ≡ (release_step (reached (here c w x node) from m)).there.out =
@@ -74,7 +74,7 @@ module _ (c : Whole) (i : ℕ) (handed : Handed) (step : Step) (from : Party) (w
       ap (λ y. (worker_does_by d w f y).out) at ∙
       ap (λ y. (worker_does_at d w x f y).out) home in
       let q : IsOut (delivered c i) step = taken_out (delivered c i) None (is_within_limits (delivered c i).whole) step g in
-      (q.entries ∙ ap (λ (o : Outbox). o.entries) out, q.letters ∙ ap (λ (o : Outbox). o.letters) out)
+      (q.entries ∙ ap (λ (o : Outbox). o.entries) out, q.envelopes ∙ ap (λ (o : Outbox). o.envelopes) out)
 
 -- ---- what stands in a legal log
 
@@ -129,7 +129,7 @@ accepted_other s log legal a i =
     let r = allowed_at s log legal (Accepted a) (λ e. absurd (cc)) (λ e. absurd (cc)) i in r.1.not_main
 
 -- the owner of what was born is there
-pub owner_there : (s : Setting) (log : List Entry) (c : Whole) → Between s log c → IsCalm log → (y : Id) → IsBorn (births log) y → (x : Worker) × (worker_at c y.owner ≡ Some x) × (x.is_live ≡ true)
+pub owner_there : (s : Setting) (log : List Entry) (c : ClusterState) → Between s log c → IsCalm log → (y : Id) → IsBorn (births log) y → (x : Worker) × (worker_at c y.owner ≡ Some x) × (x.is_live ≡ true)
 owner_there s log c b calm y born =
     let home = b.knows.calm.homes y born in
     lives_there s log c b y.owner (opened_lives log calm y.owner home.0 home.1)

@@ -27,8 +27,8 @@ use Rattle.lease_discipline.proofs.of_holding_steps.Known.{known_born}
 use Rattle.event_log.proofs.WordLaws.{deeds}
 use Rattle.meaning_laws.proofs.Good.{GoodLog, Stands as StandsSo, Told, objects_born, spec_named}
 use Rattle.meaning_laws.proofs.LogLaw.{good_log}
-use Rattle.protocol.specs.Tables.{HasEnded, HasFaulted, Out, Phase, Ready, Run, Waits, Worker, object_needed}
-use Rattle.protocol.specs.Whole.{Whole, worker_at}
+use Rattle.protocol.specs.Tables.{HasEnded, HasFaulted, Out, Phase, Ready, Execution, Waits, Worker, object_needed}
+use Rattle.protocol.specs.Cluster.{ClusterState, worker_at}
 use Rattle.lease_discipline.specs.of_protocol_legal.Knows.{KnowsPhase, KnowsRun, piece_of}
 use Rattle.lease_discipline.specs.of_protocol_legal.Whole.{Between, setting_of}
 use Rattle.lease_discipline.specs.of_protocol_laws.Sound.{IsSound}
@@ -36,7 +36,7 @@ use Rattle.owed_replies.specs.Kept.{IsBornIn}
 
 -- ---- what is waited for
 
-module _ (s : Setting) (log : List Entry) (c : Whole) (b : Between s log c) where
+module _ (s : Setting) (log : List Entry) (c : ClusterState) (b : Between s log c) where
   abbrev P : Id → Type 0
   P = IsBorn (births log)
 
@@ -49,7 +49,7 @@ module _ (s : Setting) (log : List Entry) (c : Whole) (b : Between s log c) wher
       told : Told s.script (births log) spec (deeds a log)
       told = subst (λ o. StandsSo s.script (births log) o (deeds a log)) e (good.told a)
 
-  pub need_known : (w : ℕ) (x : Worker) (run : Run) → worker_at c w ≡ Some x → x.is_live ≡ true → x.run ≡ Some run → (y : Id) → object_needed run.phase ≡ Some y → P y
+  pub need_known : (w : ℕ) (x : Worker) (run : Execution) → worker_at c w ≡ Some x → x.is_live ≡ true → x.run ≡ Some run → (y : Id) → object_needed run.phase ≡ Some y → P y
   need_known w x run at live e y needs = by_phase run.phase refl needs
     where
       knows : KnowsRun (setting_of s c) log w x run
@@ -98,7 +98,7 @@ filled_at first [] d (k, e) = absurd (cc)
 filled_at first (c ∷ cs) d (zero, e) = let same : c ≡ d = cc in (first, inl (refl, ap ids_in_outcome (sym same)))
 filled_at first (c ∷ cs) d (suc k, e) = let r = filled_at (next_id first) cs d (k, e) in (r.0, inr r.1)
 
-module _ (s : Setting) (log : List Entry) (c : Whole) (sound : IsSound s log c) where
+module _ (s : Setting) (log : List Entry) (c : ClusterState) (sound : IsSound s log c) where
   abbrev tells : Tells log sound.past
   tells = sound.held.joined.tells
 

@@ -7,10 +7,10 @@ use Rattle.event_log.specs.Entries.{Refusal, Limit}
 use Rattle.event_log.specs.Rules.{Setting}
 use Rattle.protocol.specs.Answers.{Answer, Refuses, Step, Takes, answer, decided, given_out, logged, takes, whole_after}
 use Rattle.protocol.specs.Events.{happens}
-use Rattle.protocol.specs.Jobs.{Handed}
-use Rattle.protocol.specs.Messages.{Letter}
+use Rattle.protocol.specs.Jobs.{CommitInput}
+use Rattle.protocol.specs.Messages.{Envelope}
 use Rattle.protocol.specs.Refusals.{is_within_limits, refusal}
-use Rattle.protocol.specs.Whole.{Moved, Whole}
+use Rattle.protocol.specs.Cluster.{Transition, ClusterState}
 use Rattle.protocol_owed.specs.Runs.{Running, after_events, opening_run}
 use Rattle.protocol_owed.specs.Seen.{IsCalm}
 use Rattle.lease_discipline.specs.Told.{IsInStep}
@@ -25,11 +25,11 @@ use Rattle.owed_replies.proofs.Waiting.{hold_owed, places_owed}
 use Rattle.owed_replies.proofs.Runs.{RunReplies, event_run, run_replies}
 
 -- an event that was taken wasn't refused, and is what happens
-record IsTaken (c : Whole) (e : Event) (handed : Handed) (step : Step) : Type 0 where
+record IsTaken (c : ClusterState) (e : Event) (handed : CommitInput) (step : Step) : Type 0 where
   unrefused : refusal c e handed ≡ None
   same : takes (happens c e handed) (given_out c e) ≡ Takes step
 
-taken : (c : Whole) (e : Event) (handed : Handed) (step : Step) → answer c e handed ≡ Takes step → IsTaken c e handed step
+taken : (c : ClusterState) (e : Event) (handed : CommitInput) (step : Step) → answer c e handed ≡ Takes step → IsTaken c e handed step
 taken c e handed step answered = by_code (refusal c e handed) refl answered
   where
     by_limit : (t : Bool) → refusal c e handed ≡ None → (if t then takes (happens c e handed) (given_out c e) else Refuses Limit) ≡ Takes step → IsTaken c e handed step
@@ -40,7 +40,7 @@ taken c e handed step answered = by_code (refusal c e handed) refl answered
     by_code None is f = by_limit (is_within_limits (happens c e handed).whole) is f
     by_code (Some code) is f = absurd (cc)
 
-module _ (s : Setting) (r : Running) (k : RunReplies s r) (calm : IsCalm r.log) (e : Event) (seat : ℕ) (handed : Handed) (step : Step) (answered : answer r.whole e handed ≡ Takes step)
+module _ (s : Setting) (r : Running) (k : RunReplies s r) (calm : IsCalm r.log) (e : Event) (seat : ℕ) (handed : CommitInput) (step : Step) (answered : answer r.whole e handed ≡ Takes step)
     (after : IsInStep s (r.log ++ logged e seat (answer r.whole e handed)) (whole_after r.whole (answer r.whole e handed))) where
   step_after : IsInStep s (r.log ++ In e seat ∷ step.entries) step.whole
   step_after = subst (λ a. IsInStep s (r.log ++ logged e seat a) (whole_after r.whole a)) answered after
@@ -48,7 +48,7 @@ module _ (s : Setting) (r : Running) (k : RunReplies s r) (calm : IsCalm r.log) 
   here : IsTaken r.whole e handed step
   here = taken r.whole e handed step answered
 
-  abbrev m : Moved
+  abbrev m : Transition
   m = happens r.whole e handed
 
   advances : Advances r.log r.whole e seat m
@@ -59,19 +59,19 @@ module _ (s : Setting) (r : Running) (k : RunReplies s r) (calm : IsCalm r.log) 
   entries_in (Takes x) = x.entries
   entries_in (Refuses code) = []
 
-  abbrev letters_in : Answer → List Letter
-  letters_in (Takes x) = x.letters
-  letters_in (Refuses code) = []
+  abbrev envelopes_in : Answer → List Envelope
+  envelopes_in (Takes x) = x.envelopes
+  envelopes_in (Refuses code) = []
 
   brought : (a : Attempt) → Among (Accepted a) step.entries → IsBrought r.whole e a
   brought a i = advances.accepts a (subst (λ es. Among (Accepted a) es) (sym (ap entries_in here.same)) i)
 
-  network : step.whole.network ≡ r.whole.network ++ step.letters
+  network : step.whole.network ≡ r.whole.network ++ step.envelopes
   network =
-      sym (ap (λ a. (whole_after r.whole a).network) here.same) ∙ advances.network ∙ ap (λ a. r.whole.network ++ letters_in a) here.same
+      sym (ap (λ a. (whole_after r.whole a).network) here.same) ∙ advances.network ∙ ap (λ a. r.whole.network ++ envelopes_in a) here.same
 
-  known : AtsAreKnown (r.log ++ In e seat ∷ step.entries) step.letters
-  known = sent_are_known s (r.log ++ In e seat ∷ step.entries) r.whole step.whole step.letters step_after.sound.between network
+  known : AtsAreKnown (r.log ++ In e seat ∷ step.entries) step.envelopes
+  known = sent_are_known s (r.log ++ In e seat ∷ step.entries) r.whole step.whole step.envelopes step_after.sound.between network
 
   pub is_paid : IsPaid (happening s r e seat step)
   is_paid = record {

@@ -7,11 +7,11 @@ use Rattle.meaning.specs.Values.{Id, Outcome}
 use Rattle.event_log.specs.Breaks.{Among}
 use Rattle.event_log.specs.Entries.{Attempt, Entry, Got, Fault, Faulted, Accepted, Ended}
 use Rattle.protocol.specs.Messages.{EndedResult}
-use Rattle.protocol.specs.Messages.{Message, Party, TheWorker, TheNode, Push, Finished, Where, At, Missing, Hold}
+use Rattle.protocol.specs.Messages.{Message, Endpoint, TheWorker, TheNode, Push, Finished, Where, At, Missing, Hold}
 use Rattle.protocol.specs.Stores.{Store}
 use Rattle.protocol.specs.Sets.{is_empty}
-use Rattle.protocol.specs.Tables.{AskedAt, Fetching, HasEnded, HasFaulted, Holding, Object, Out, Phase, Ready, Run, Waits, is_nowhere, without_place}
-use Rattle.protocol.specs.Steps.{Here, is_own, logs_all, logs, object_at, says, says_to_node, with_phase, with_run, with_store, with_worker}
+use Rattle.protocol.specs.Tables.{AskedAt, Fetching, HasEnded, HasFaulted, Holding, Object, Out, Phase, Ready, Execution, Waits, is_nowhere, without_place}
+use Rattle.protocol.specs.Steps.{WorkerContext, is_own, logs_all, logs, object_at, says, says_to_node, with_phase, with_run, with_store, with_worker}
 use Rattle.protocol.specs.Runs.{asks_for_slot, gives_slot_back, leaves_if_free, push_reached, tells_stop, with_answer}
 use Rattle.protocol.specs.Asking.{rests, with_begun}
 use Rattle.protocol.specs.Recovery.{recovers}
@@ -41,21 +41,21 @@ is_quiet (x ∷ es) = is_mute x && is_quiet es
 -- ---- the smallest steps
 
 -- the worker's attempt waits for the HoldAck
-pub record Awaits (h : Here) (k : Holding) : Type 0 where
-  pub run : Run
+pub record Awaits (h : WorkerContext) (k : Holding) : Type 0 where
+  pub run : Execution
   pub at : h.worker.run ≡ Some run
   pub listed : Among k run.holds
 
 -- it is over, and that wasn't heard
-pub record IsUnheard (h : Here) (a : Attempt) : Type 0 where
-  pub run : Run
+pub record IsUnheard (h : WorkerContext) (a : Attempt) : Type 0 where
+  pub run : Execution
   pub at : h.worker.run ≡ Some run
   pub same : run.attempt ≡ a
   pub over : run.is_over ≡ true
   pub unheard : run.is_acknowledged ≡ false
 
 -- what is said to whom, where Holds and Pushes may be said
-abbrev pub IsSaid : Type 0 → Type 0 → Here → ℕ → Message → Type 0
+abbrev pub IsSaid : Type 0 → Type 0 → WorkerContext → ℕ → Message → Type 0
 IsSaid AnyHold AnyPush h w (Where y) = (w ≡ y.owner) × (is_own h y ≡ false) × Needs h y
 IsSaid AnyHold AnyPush h w (Missing y number n) = (w ≡ y.owner) × (is_own h y ≡ false)
 IsSaid AnyHold AnyPush h w (Hold e o) = (w ≡ o.owner) × Awaits h (holding e o) × AnyHold
@@ -64,39 +64,39 @@ IsSaid AnyHold AnyPush h w (Finished a n rs) = (w ≡ a.object.owner) × IsUnhea
 IsSaid AnyHold AnyPush h w (At y number ns kept) = (is_empty ns && is_none kept) ≡ false
 IsSaid AnyHold AnyPush h w m = Unit {0}
 
-pub record IsKeptWhere (AnyHold AnyPush : Type 0) (P : Here → Type 0) : Type 0 where
-  pub writes : (h : Here) (es : List Entry) → is_quiet es ≡ true → P h → P (logs_all h es)
-  pub says : (h : Here) (w : ℕ) (m : Message) → IsSaid AnyHold AnyPush h w m → P h → P (says h w m)
-  pub says_to_node : (h : Here) (n : ℕ) (m : Message) → P h → P (says_to_node h n m)
-  pub objects : (h : Here) (ys : List Object) → Grows h.worker.objects ys → P h → P (with_worker h (record h.worker { objects = ys }))
-  pub passes : (h : Here) (ks : List Holding) → P h → P (with_worker h (record h.worker { passed_on = ks }))
-  pub deaths : (h : Here) (vs ns : List ℕ) → P h → P (with_worker h (record h.worker { dead_workers = vs; dead_nodes = ns }))
-  pub store : (h : Here) (s : Store) → P h → P (with_store h s)
-  pub frees : (h : Here) → P h → P (gives_slot_back h)
+pub record IsKeptWhere (AnyHold AnyPush : Type 0) (P : WorkerContext → Type 0) : Type 0 where
+  pub writes : (h : WorkerContext) (es : List Entry) → is_quiet es ≡ true → P h → P (logs_all h es)
+  pub says : (h : WorkerContext) (w : ℕ) (m : Message) → IsSaid AnyHold AnyPush h w m → P h → P (says h w m)
+  pub says_to_node : (h : WorkerContext) (n : ℕ) (m : Message) → P h → P (says_to_node h n m)
+  pub objects : (h : WorkerContext) (ys : List Object) → Grows h.worker.objects ys → P h → P (with_worker h (record h.worker { objects = ys }))
+  pub passes : (h : WorkerContext) (ks : List Holding) → P h → P (with_worker h (record h.worker { passed_on = ks }))
+  pub deaths : (h : WorkerContext) (vs ns : List ℕ) → P h → P (with_worker h (record h.worker { dead_workers = vs; dead_nodes = ns }))
+  pub store : (h : WorkerContext) (s : Store) → P h → P (with_store h s)
+  pub frees : (h : WorkerContext) → P h → P (gives_slot_back h)
   -- a Fetch is under way, or isn't; the stop was heard
-  pub fetches : (h : Here) (run : Run) (y : Id) (f g : Option Fetching) → h.worker.run ≡ Some run → run.phase ≡ Waits y f → P h →
+  pub fetches : (h : WorkerContext) (run : Execution) (y : Id) (f g : Option Fetching) → h.worker.run ≡ Some run → run.phase ≡ Waits y f → P h →
       P (with_phase h run (Waits y g))
-  pub heard : (h : Here) (run : Run) → h.worker.run ≡ Some run → P h → P (with_run h (record run { is_acknowledged = true }))
+  pub heard : (h : WorkerContext) (run : Execution) → h.worker.run ≡ Some run → P h → P (with_run h (record run { is_acknowledged = true }))
   -- the attempt is answered, and asks for its slot; it has a fault, gives its slot back, and may be over by that; a Hold waits no more
-  pub gets : (h : Here) (run : Run) (c : Outcome) (y : Id) (f : Option Fetching) → h.worker.run ≡ Some run → run.phase ≡ Waits y f →
+  pub gets : (h : WorkerContext) (run : Execution) (c : Outcome) (y : Id) (f : Option Fetching) → h.worker.run ≡ Some run → run.phase ≡ Waits y f →
       P h → P (asks_for_slot (logs (with_run h (with_answer run c)) (Got run.attempt y c)))
-  pub faults : (h : Here) (run : Run) (f : Fault) (y : Id) (g : Option Fetching) → h.worker.run ≡ Some run → run.phase ≡ Waits y g →
+  pub faults : (h : WorkerContext) (run : Execution) (f : Fault) (y : Id) (g : Option Fetching) → h.worker.run ≡ Some run → run.phase ≡ Waits y g →
       P h → P (leaves_if_free (gives_slot_back (logs (with_phase h run (HasFaulted f)) (Faulted run.attempt y f))))
-  pub acknowledged : (h : Here) (run : Run) (test : Holding → Bool) → h.worker.run ≡ Some run → P h →
+  pub acknowledged : (h : WorkerContext) (run : Execution) (test : Holding → Bool) → h.worker.run ≡ Some run → P h →
       P (leaves_if_free (with_run h (record run { holds = filter test run.holds })))
 
 -- whatever is said
-abbrev pub IsKept : (Here → Type 0) → Type 0
+abbrev pub IsKept : (WorkerContext → Type 0) → Type 0
 IsKept P = IsKeptWhere (Unit {0}) (Unit {0}) P
 
 -- an own attempt begins where Pushes may be said
 abbrev GivenWhere : Type 0 → ℕ → ℕ → Attempt → ℕ → Type 0
 GivenWhere AnyPush n t a w = AnyPush
 
-module _ {AnyHold AnyPush : Type 0} (P : Here → Type 0) (kept : IsKeptWhere AnyHold AnyPush P) where
+module _ {AnyHold AnyPush : Type 0} (P : WorkerContext → Type 0) (kept : IsKeptWhere AnyHold AnyPush P) where
   -- ---- the smallest steps are among these
 
-  tells_stop-kept : (h : Here) (run : Run) (phase : Phase) → IsUnheard h run.attempt → P h → P (tells_stop h run phase)
+  tells_stop-kept : (h : WorkerContext) (run : Execution) (phase : Phase) → IsUnheard h run.attempt → P h → P (tells_stop h run phase)
   tells_stop-kept h run (HasEnded c) u p = kept.says h _ _ (refl, u) p
   tells_stop-kept h run (HasFaulted f) u p = kept.says h _ _ tt p
   tells_stop-kept h run Ready u p = p
@@ -155,63 +155,63 @@ module _ {AnyHold AnyPush : Type 0} (P : Here → Type 0) (kept : IsKeptWhere An
   -- ---- each step
 
   -- where the acceptance is kept, what follows it is
-  pub finished_reached-kept : (T : ℕ → Attempt → Type 0) → KeepsAccepted T P → (h : Here) (w : ℕ) (a : Attempt) (n : ℕ) (rs : List EndedResult) → T w a → P h →
+  pub finished_reached-kept : (T : ℕ → Attempt → Type 0) → KeepsAccepted T P → (h : WorkerContext) (w : ℕ) (a : Attempt) (n : ℕ) (rs : List EndedResult) → T w a → P h →
       P (finished_reached h w a n rs)
   finished_reached-kept T accepted h w a n rs t p = S.finished_reached-kept P (keeps_told T) (replies_told T) accepted h w a n rs t p
 
-  pub asks_again-kept : (h : Here) (run : Run) (phase : Phase) → h.worker.run ≡ Some run → run.phase ≡ phase → P h → P (asks_again h phase)
+  pub asks_again-kept : (h : WorkerContext) (run : Execution) (phase : Phase) → h.worker.run ≡ Some run → run.phase ≡ phase → P h → P (asks_again h phase)
   asks_again-kept h run phase e q p = S.asks_again-kept P keeps h run phase e q p
 
-  pub sends_stop-kept : (h : Here) (run : Run) → h.worker.run ≡ Some run → P h → P (sends_stop h run)
+  pub sends_stop-kept : (h : WorkerContext) (run : Execution) → h.worker.run ≡ Some run → P h → P (sends_stop h run)
   sends_stop-kept h run e p = S.sends_stop-kept P keeps h run e p
 
-  pub sends_tasks-kept : (h : Here) → AnyPush → P h → P (sends_tasks h)
+  pub sends_tasks-kept : (h : WorkerContext) → AnyPush → P h → P (sends_tasks h)
   sends_tasks-kept h may p = S.sends_tasks-kept P keeps h may p
 
-  pub tick_step-kept : (h : Here) → AnyHold → AnyPush → P h → P (tick_step h)
+  pub tick_step-kept : (h : WorkerContext) → AnyHold → AnyPush → P h → P (tick_step h)
   tick_step-kept h held pushed p = S.tick_step-kept P keeps h held pushed p
 
-  pub notice_step-kept : (h : Here) (v : ℕ) → P h → P (notice_step h v)
+  pub notice_step-kept : (h : WorkerContext) (v : ℕ) → P h → P (notice_step h v)
   notice_step-kept h v p = S.notice_step-kept P keeps h v p
 
-  pub notice_node_step-kept : (h : Here) (m : ℕ) → P h → P (notice_node_step h m)
+  pub notice_node_step-kept : (h : WorkerContext) (m : ℕ) → P h → P (notice_node_step h m)
   notice_node_step-kept h m p = S.notice_node_step-kept P keeps h m (λ _ _. tt) p
 
-  pub release_step-kept : (h : Here) → P h → P (release_step h)
+  pub release_step-kept : (h : WorkerContext) → P h → P (release_step h)
   release_step-kept h p = S.release_step-kept P keeps h p
 
-  pub recovers-kept : (h : Here) (o : Id) → P h → P (recovers h o)
+  pub recovers-kept : (h : WorkerContext) (o : Id) → P h → P (recovers h o)
   recovers-kept h o p = S.recovers-kept P keeps h o p
 
-  pub needs_own-kept : (h : Here) (o : Id) → P h → P (needs_own h o)
+  pub needs_own-kept : (h : WorkerContext) (o : Id) → P h → P (needs_own h o)
   needs_own-kept h o p = S.needs_own-kept P keeps h o p
 
   -- of an object that has its content
-  pub answers_settled-kept : (h : Here) (o : Id) (x : Object) → object_at h o ≡ Some x → is_nowhere x ≡ false → is_some x.settled ≡ true → P h →
+  pub answers_settled-kept : (h : WorkerContext) (o : Id) (x : Object) → object_at h o ≡ Some x → is_nowhere x ≡ false → is_some x.settled ≡ true → P h →
       P (answers_settled h o)
   answers_settled-kept h o x at some settled p = S.answers_settled-kept P keeps h o x at some settled p
 
-  pub rests_if_waiting-kept : (h : Here) (y : Id) → P h → P (rests_if_waiting h y)
+  pub rests_if_waiting-kept : (h : WorkerContext) (y : Id) → P h → P (rests_if_waiting h y)
   rests_if_waiting-kept h y p = S.rests_if_waiting-kept P keeps h y p
 
   -- behind the new phase
-  pub needs-kept : (h : Here) (run : Run) (y : Id) → P (with_phase h run (Waits y None)) → P (needs h run y)
+  pub needs-kept : (h : WorkerContext) (run : Execution) (y : Id) → P (with_phase h run (Waits y None)) → P (needs h run y)
   needs-kept h run y p = S.needs-kept P keeps h run y p
 
-  pub hold_ack_reached-kept : (h : Here) (e o : Id) → P h → P (hold_ack_reached h e o)
+  pub hold_ack_reached-kept : (h : WorkerContext) (e o : Id) → P h → P (hold_ack_reached h e o)
   hold_ack_reached-kept h e o p = S.hold_ack_reached-kept P keeps h e o p
 
   -- a Push, and an end that is told, stand apart
-  abbrev pub IsHeard : Here → ℕ → Message → Type 0
+  abbrev pub IsHeard : WorkerContext → ℕ → Message → Type 0
   IsHeard h w (Push a spec) = P (push_reached h a spec)
   IsHeard h w (Finished a n rs) = P (finished_reached h w a n rs)
   IsHeard h w m = Unit {0}
 
-  abbrev pub IsHeardFrom : Here → Party → Message → Type 0
+  abbrev pub IsHeardFrom : WorkerContext → Endpoint → Message → Type 0
   IsHeardFrom h (TheWorker w) m = IsHeard h w m
   IsHeardFrom h (TheNode n) m = Unit {0}
 
-  abbrev Hears : Here → Party → Message → Type 0
+  abbrev Hears : WorkerContext → Endpoint → Message → Type 0
   Hears h (TheWorker w) m = IsHeard h w m
   Hears h (TheNode n) m = AnyPush
 
@@ -225,9 +225,9 @@ module _ {AnyHold AnyPush : Type 0} (P : Here → Type 0) (kept : IsKeptWhere An
     elsewhere = λ h n a t m _ p. S.elsewhere_reached-kept P keeps h a t m (λ _ _ _ _ _ _. tt) p;
   }
 
-  pub reached_from_worker-kept : (h : Here) (w : ℕ) (m : Message) → IsHeard h w m → P h → P (reached_from_worker h w m)
+  pub reached_from_worker-kept : (h : WorkerContext) (w : ℕ) (m : Message) → IsHeard h w m → P h → P (reached_from_worker h w m)
   reached_from_worker-kept h w m s p = S.reached_from_worker-kept P keeps heard h w m s p
 
-  pub reached-kept : (h : Here) (from : Party) (m : Message) → IsHeardFrom h from m → AnyPush → P h → P (reached h from m)
+  pub reached-kept : (h : WorkerContext) (from : Endpoint) (m : Message) → IsHeardFrom h from m → AnyPush → P h → P (reached h from m)
   reached-kept h (TheWorker w) m s may p = S.reached_from_worker-kept P keeps heard h w m s p
   reached-kept h (TheNode n) m s may p = S.reached_from_node-kept P keeps heard h n m may p

@@ -9,7 +9,7 @@ use Rattle.protocol.specs.Numbered.{changed_at, item_at}
 use Rattle.protocol.specs.Sets.{has, is_empty, with_number}
 use Rattle.protocol.specs.Tables.{Object, OwnTask, with_asker}
 use Rattle.protocol.specs.Tables.{with_fault, with_task, without_askers}
-use Rattle.protocol.specs.Steps.{Here, is_own, object_at, own_object}
+use Rattle.protocol.specs.Steps.{WorkerContext, is_own, object_at, own_object}
 use Rattle.owed_replies.specs.Kept.{IsAnswered}
 use Rattle.protocol_owed.proofs.Nodes.{changed_cases, there_more, there_still}
 
@@ -76,10 +76,10 @@ asker_grows xs n w = same_grows xs n (with_asker w) (λ x. record { askers = λ 
     stays ws v e = at_test (λ b. has (if b then ws else ws ++ w ∷ []) v ≡ true) (has ws w) (λ _. e) (λ _. list_any-push_left (λ i. i == v) ws w e)
 
 -- another task in its place
-pub put_grows : (h : Here) (o : Id) (task : OwnTask) → Grows h.worker.objects (changed_at h.worker.objects o.serial (with_task task))
+pub put_grows : (h : WorkerContext) (o : Id) (task : OwnTask) → Grows h.worker.objects (changed_at h.worker.objects o.serial (with_task task))
 put_grows h o task = same_grows h.worker.objects o.serial (with_task task) (λ x. succeeds_alike x (with_task task x) refl refl refl)
 
-pub fault_grows : (h : Here) (o : Id) (f : Fault) → Grows h.worker.objects (changed_at h.worker.objects o.serial (with_fault f))
+pub fault_grows : (h : WorkerContext) (o : Id) (f : Fault) → Grows h.worker.objects (changed_at h.worker.objects o.serial (with_fault f))
 fault_grows h o f = same_grows h.worker.objects o.serial (with_fault f) (λ x. record { askers = λ w e. inl e; answered = λ _. inr refl })
 
 -- all of them are
@@ -97,18 +97,18 @@ pub joined_grows : (xs ys : List Object) → Grows xs (xs ++ ys)
 joined_grows xs ys k x at = record { object = x; there = there_more xs ys k x at; succeeds = succeeds_itself x }
 
 -- nobody waits for it any more, where it is answered
-pub answered_grows : (h : Here) (o : Id) → ((x : Object) → item_at h.worker.objects o.serial ≡ Some x → IsAnswered x) →
+pub answered_grows : (h : WorkerContext) (o : Id) → ((x : Object) → item_at h.worker.objects o.serial ≡ Some x → IsAnswered x) →
     Grows h.worker.objects (changed_at h.worker.objects o.serial without_askers)
 answered_grows h o answered = changed_grows h.worker.objects o.serial without_askers (λ x at. record { askers = λ w e. inr (answered x at); answered = λ a. a })
 
 -- ---- what a look at an own object tells
 
-pub looked_up : (h : Here) (o : Id) (x : Object) → object_at h o ≡ Some x → item_at h.worker.objects o.serial ≡ Some x
+pub looked_up : (h : WorkerContext) (o : Id) (x : Object) → object_at h o ≡ Some x → item_at h.worker.objects o.serial ≡ Some x
 looked_up h o x e =
     at_test (λ b. (if b then own_object h o.serial else None) ≡ Some x → item_at h.worker.objects o.serial ≡ Some x) (is_own h o)
     (λ _ f. f) (λ _ f. absurd (cc)) e
 
-pub answered_there : (h : Here) (o : Id) (x y : Object) → IsAnswered x → object_at h o ≡ Some x → item_at h.worker.objects o.serial ≡ Some y → IsAnswered y
+pub answered_there : (h : WorkerContext) (o : Id) (x y : Object) → IsAnswered x → object_at h o ≡ Some x → item_at h.worker.objects o.serial ≡ Some y → IsAnswered y
 answered_there h o x y answered at there = subst IsAnswered (same_item h.worker.objects o.serial x y (looked_up h o x at) there) answered
 
 -- what has a place where the owner doesn't keep it

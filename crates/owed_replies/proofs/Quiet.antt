@@ -22,9 +22,9 @@ use Rattle.lease_discipline.proofs.of_protocol_legal.Placing.{lone}
 use Rattle.values.specs.Cells.{if_small, is_small}
 use Rattle.protocol.specs.Numbered.{item_at}
 use Rattle.protocol.specs.Sets.{has, object_id}
-use Rattle.protocol.specs.Tables.{AskedAt, AtRest, Beside, ByTask, Maker, task_by, task_in, task_of, is_pending_task, Object, OwnTask, Progress, RunsOn, WasPut, Worker, has_content, is_under_way, settled_number, is_nowhere}
-use Rattle.protocol.specs.Whole.{Whole, worker_at}
-use Rattle.lease_discipline.specs.of_protocol_legal.Knows.{IsBegun, IsPartOf, IsPlaced, IsSettled, IsTask, KnowsMaker, KnowsObject, KnowsProgress, KnowsPut, KnowsResult}
+use Rattle.protocol.specs.Tables.{AskedAt, AtRest, Beside, ByTask, ObjectSource, task_by, task_in, task_of, is_pending_task, Object, OwnTask, Progress, RunsOn, WasPut, Worker, has_content, is_under_way, settled_number, is_nowhere}
+use Rattle.protocol.specs.Cluster.{ClusterState, worker_at}
+use Rattle.lease_discipline.specs.of_protocol_legal.Knows.{IsBegun, IsPartOf, IsPlaced, IsSettled, IsTask, KnowsSource, KnowsObject, KnowsProgress, KnowsPut, KnowsResult}
 use Rattle.lease_discipline.specs.of_protocol_legal.Knows.{KnowsTask, kept_until, once}
 use Rattle.lease_discipline.specs.of_protocol_legal.Lost.{IsLost, RisingTo}
 use Rattle.lease_discipline.specs.of_protocol_legal.Made.{IsMadeAt, EndsSmall}
@@ -216,7 +216,7 @@ pub record IsMadeBy (p : Past) (y : Id) (x : Worker) (z : Object) : Type 0 where
   pub first : Id
   pub task : OwnTask
   pub place : ℕ
-  pub makes : task_by x.objects z.maker ≡ Some task
+  pub makes : task_by x.objects z.source ≡ Some task
   pub there : task_of (item_at x.objects first.serial) ≡ Some task
   pub owner : first.owner ≡ y.owner
   pub serial : y.serial ≡ first.serial + place
@@ -232,12 +232,12 @@ pub data Origin (p : Past) (y : Id) (x : Worker) (z : Object) : Type 0 where
 
 pub origin_of : (p : Past) (y : Id) (x : Worker) (z : Object) → ((k : ℕ) (w : Object) → item_at x.objects k ≡ Some w → KnowsObject p x (object_id y.owner k) w) →
     item_at x.objects y.serial ≡ Some z → Origin p y x z
-origin_of p y x z each there = by_maker z.maker refl (each y.serial z there).maker
+origin_of p y x z each there = by_source z.source refl (each y.serial z there).source
   where
     by_row : (k : ℕ) (task : OwnTask) → task_of (item_at x.objects k) ≡ Some task → KnowsTask p (object_id y.owner k) x.objects task
     by_row k task e = by_object (item_at x.objects k) refl e
       where
-        by_made : (w : Object) (m : Maker) → KnowsMaker p x.node x.objects (object_id y.owner k) w m →
+        by_made : (w : Object) (m : ObjectSource) → KnowsSource p x.node x.objects (object_id y.owner k) w m →
             task_in m ≡ Some task → KnowsTask p (object_id y.owner k) x.objects task
         by_made w WasPut q f = absurd (cc)
         by_made w (ByTask other) q f = let same : other ≡ task = cc in subst (KnowsTask p (object_id y.owner k) x.objects) same q.0
@@ -245,11 +245,11 @@ origin_of p y x z each there = by_maker z.maker refl (each y.serial z there).mak
 
         by_object : (o : Option Object) → item_at x.objects k ≡ o → task_of o ≡ Some task → KnowsTask p (object_id y.owner k) x.objects task
         by_object None i f = absurd (cc)
-        by_object (Some w) i f = by_made w w.maker (each k w i).maker f
+        by_object (Some w) i f = by_made w w.source (each k w i).source f
 
-    by_maker : (m : Maker) → z.maker ≡ m → KnowsMaker p x.node x.objects y z m → Origin p y x z
-    by_maker WasPut e q = OfPut q
-    by_maker (ByTask task) e q = OfTask (record {
+    by_source : (m : ObjectSource) → z.source ≡ m → KnowsSource p x.node x.objects y z m → Origin p y x z
+    by_source WasPut e q = OfPut q
+    by_source (ByTask task) e q = OfTask (record {
       first = y;
       task = task;
       place = q.1.0;
@@ -262,7 +262,7 @@ origin_of p y x z each there = by_maker z.maker refl (each y.serial z there).mak
       part = q.1.3;
       result = q.1.4;
     })
-    by_maker (Beside k) e q = OfTask (record {
+    by_source (Beside k) e q = OfTask (record {
       first = object_id y.owner k;
       task = q.0;
       place = q.2.0;
@@ -298,7 +298,7 @@ pub record HasContentAt (z : Object) (number n : ℕ) : Type 0 where
 abbrev pub IsHad : List Entry → Id → Object → ℕ → ℕ → Type 0
 IsHad log y z number n = HasContentAt z number n × (z.kept ≡ None → EndsSmall log y number → ⊥)
 
-module _ (s : Setting) (log : List Entry) (c : Whole) (b : Between s log c) (calm : IsCalm log) where
+module _ (s : Setting) (log : List Entry) (c : ClusterState) (b : Between s log c) (calm : IsCalm log) where
   pub all_live : (w : ℕ) (x : Worker) → worker_at c w ≡ Some x → x.is_live ≡ true
   all_live w x at = sym (b.knows.lives w x at) ∙ opened_lives log calm w x.node (places s log c b w x at)
 

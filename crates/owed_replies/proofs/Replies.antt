@@ -21,20 +21,20 @@ use Rattle.protocol.specs.Answers.{Step, Takes, answer}
 use Rattle.protocol.specs.Asking.{rests}
 use Rattle.protocol.specs.Deliveries.{reached}
 use Rattle.protocol.specs.Ends.{accepts, finished_by, finished_reached, hears_of_end, if_present}
-use Rattle.protocol.specs.Jobs.{Handed}
-use Rattle.protocol.specs.Messages.{At, EndedResult, Finished, FinishedAck, Letter, letter, TheWorker}
+use Rattle.protocol.specs.Jobs.{CommitInput}
+use Rattle.protocol.specs.Messages.{At, EndedResult, Finished, FinishedAck, Envelope, envelope, TheWorker}
 use Rattle.protocol.specs.Nodes.{Node}
 use Rattle.protocol.specs.Numbered.{changed_at, item_at}
 use Rattle.protocol.specs.Places.{answers_settled, answers_settled_by, tells_places}
 use Rattle.protocol.specs.Sets.{has, object_id}
 use Rattle.protocol.specs.Releases.{release_step}
-use Rattle.protocol.specs.Steps.{changes, each_result, Here, object_at, own_id, own_object, store_here, with_task_of}
-use Rattle.protocol.specs.Tables.{AskedAt, AtRest, is_pending_task, is_under_way, Object, OwnTask, places_for, Progress, Run, RunsOn, task_in}
+use Rattle.protocol.specs.Steps.{changes, each_result, WorkerContext, object_at, own_id, own_object, store_here, with_task_of}
+use Rattle.protocol.specs.Tables.{AskedAt, AtRest, is_pending_task, is_under_way, Object, OwnTask, places_for, Progress, Execution, RunsOn, task_in}
 use Rattle.protocol.specs.Tables.{task_of, with_content, with_task, without_askers, Worker}
-use Rattle.protocol.specs.Whole.{Whole, here, node_at, worker_at}
+use Rattle.protocol.specs.Cluster.{ClusterState, here, node_at, worker_at}
 use Rattle.lease_discipline.specs.of_protocol_legal.Knows.{IsSettled, KnowsProgress, KnowsPut, KnowsTask, once}
 use Rattle.lease_discipline.proofs.of_protocol_legal.EndRows.{IsToldOf, settled_in, settled_rows, settles_rows, told_of}
-use Rattle.protocol_owed.proofs.Letters.{among-nothing}
+use Rattle.protocol_owed.proofs.Envelopes.{among-nothing}
 use Rattle.lease_discipline.specs.of_protocol_legal.Made.{AreSmallEnds, IsEndedAt, IsTaken, IsWhollyEndedAt}
 use Rattle.lease_discipline.specs.of_protocol_legal.Past.{past}
 use Rattle.lease_discipline.specs.of_protocol_legal.Says.{Says}
@@ -47,7 +47,7 @@ use Rattle.protocol_owed.proofs.Replying.{Logged, Sent, end_is_accepted, end_is_
 use Rattle.protocol_owed.proofs.Owing.{askers_are_told}
 use Rattle.lease_discipline.specs.Told.{IsInStep}
 use Rattle.lease_discipline.proofs.Events.{among_at}
-use Rattle.owed_replies.specs.Kept.{IsAnswered, IsAwaitedBy, IsBornIn, IsRightLetter}
+use Rattle.owed_replies.specs.Kept.{IsAnswered, IsAwaitedBy, IsBornIn, IsRightEnvelope}
 use Rattle.owed_replies.specs.Law.{happening}
 use Rattle.owed_replies.proofs.Advancing.{IsBrought, all_among, among_flat, entry_born, flat_among, owner_has}
 use Rattle.owed_replies.proofs.Contents.{AtsAreKnown}
@@ -67,7 +67,7 @@ use Rattle.smallest_steps.proofs.Known.{own_here}
 use Rattle.owed_replies.proofs.Runs.{RunReplies}
 
 module _ (s : Setting) (r : Running) (k : RunReplies s r) (calm : IsCalm r.log) where
-  abbrev c : Whole
+  abbrev c : ClusterState
   c = r.whole
 
   abbrev b : Between s r.log r.whole
@@ -99,10 +99,10 @@ module _ (s : Setting) (r : Running) (k : RunReplies s r) (calm : IsCalm r.log) 
       is_main : same_attempt main_attempt main_attempt ≡ false → ⊥
       is_main e = let f = same_attempt-refl main_attempt in cc
 
-  pub end_of : (i w v : ℕ) (a : Attempt) (n : ℕ) (rs : List EndedResult) → item_at c.network i ≡ Some (letter (TheWorker w) (TheWorker v) (Finished a n rs)) → IsEnd i w v a n rs
+  pub end_of : (i w v : ℕ) (a : Attempt) (n : ℕ) (rs : List EndedResult) → item_at c.network i ≡ Some (envelope (TheWorker w) (TheWorker v) (Finished a n rs)) → IsEnd i w v a n rs
   end_of i w v a n rs sent =
-      let l : Letter = letter (TheWorker w) (TheWorker v) (Finished a n rs) in
-      let right : IsRightLetter r.log l = k.replies.letters l (among_at c.network i l sent) in
+      let l : Envelope = envelope (TheWorker w) (TheWorker v) (Finished a n rs) in
+      let right : IsRightEnvelope r.log l = k.replies.envelopes l (among_at c.network i l sent) in
       let told = all_among (Says (past r.log b.asked)) c.network l b.knows.told (among_at c.network i l sent) in
       let says : IsWhollyEndedAt r.log a n = told.0 in
       let born : IsBornIn r.log a.object = run_born a says.worker says.runs right.1 in
@@ -127,7 +127,7 @@ module _ (s : Setting) (r : Running) (k : RunReplies s r) (calm : IsCalm r.log) 
 
   -- the object there has the task, whose first attempt runs and isn't accepted, or is
   pub data Stage (a : Attempt) (x : Worker) (z : Object) : Type 0 where
-    Pends : (task : OwnTask) (is : task_in z.maker ≡ Some task) (present : if_present a task ≡ true)
+    Pends : (task : OwnTask) (is : task_in z.source ≡ Some task) (present : if_present a task ≡ true)
         (knows : KnowsTask (past r.log b.asked) a.object x.objects task) (unaccepted : accepts_of a r.log ≡ [])
         (only : (number w : ℕ) → worker_of (attempt a.object number) r.log ≡ Some w → number ≡ a.number) → Stage a x z
     IsAccepted : Among (Accepted a) r.log → Stage a x z
@@ -352,24 +352,24 @@ module _ (s : Setting) (r : Running) (k : RunReplies s r) (calm : IsCalm r.log) 
               subst (IsLike (row_of i low).0) (sym q) (task_changed z (subst (IsLike (row_of i low).0) (same_item x.objects j (row_of i low).0 z (row_of i low).1 old) itself))
           by_case y (inr (e, old)) = subst (IsLike (row_of i low).0) (same_item x.objects j (row_of i low).0 y (row_of i low).1 old) itself
 
-      abbrev start : Here
+      abbrev start : WorkerContext
       start = here c v x node
 
       module _ (u : ℕ) where
-        abbrev pub accepted_here : Here
+        abbrev pub accepted_here : WorkerContext
         accepted_here = hears_of_end (accepts start a task n rs) u a
 
         abbrev pub new_row : (i : ℕ) (low : i < results) → Object
         new_row i low = with_content a.number n (told_for i low).result.ids (told_for i low).result.kept (rest_row i low).0
 
         same_worker : accepted_here.worker ≡ record x { objects = settled_rows rested a.object.serial a.number n results rs }
-        same_worker = ap (λ (g : Here). g.worker) (settles_rows (with_task_of start a.object (rests task)) a.object a.number n results rs)
+        same_worker = ap (λ (g : WorkerContext). g.worker) (settles_rows (with_task_of start a.object (rests task)) a.object a.number n results rs)
 
         same_store : store_here accepted_here ≡ node.store
-        same_store = ap (λ (g : Here). g.there.node.store) (settles_rows (with_task_of start a.object (rests task)) a.object a.number n results rs)
+        same_store = ap (λ (g : WorkerContext). g.there.node.store) (settles_rows (with_task_of start a.object (rests task)) a.object a.number n results rs)
 
         pub same_me : accepted_here.me ≡ v
-        same_me = ap (λ (g : Here). g.me) (settles_rows (with_task_of start a.object (rests task)) a.object a.number n results rs)
+        same_me = ap (λ (g : WorkerContext). g.me) (settles_rows (with_task_of start a.object (rests task)) a.object a.number n results rs)
 
         pub same_run : accepted_here.worker.run ≡ x.run
         same_run = ap (λ (y : Worker). y.run) same_worker
@@ -407,11 +407,11 @@ module _ (s : Setting) (r : Running) (k : RunReplies s r) (calm : IsCalm r.log) 
             (subst (λ m. IsThere accepted_here a.number n m (new_row i below)) is (is_there i below))
 
         -- what comes of the answer to one of them
-        pub row_answered : (Q : Here → Type 0) → ((h : Here) (o : Id) → Q h → Q (answers_settled h o)) → (W : Option Run → Type 0) → (i : ℕ) (low : i < results) →
-            ((h g : Here) (j : ℕ) → h.me ≡ v → j ≢ a.object.serial + i → Leaves h g j → W h.worker.run → W g.worker.run) →
-            ((h : Here) → h.me ≡ v → own_object h (a.object.serial + i) ≡ Some (new_row i low) → IsThere h a.number n (a.object.serial + i) (new_row i low) →
+        pub row_answered : (Q : WorkerContext → Type 0) → ((h : WorkerContext) (o : Id) → Q h → Q (answers_settled h o)) → (W : Option Execution → Type 0) → (i : ℕ) (low : i < results) →
+            ((h g : WorkerContext) (j : ℕ) → h.me ≡ v → j ≢ a.object.serial + i → Leaves h g j → W h.worker.run → W g.worker.run) →
+            ((h : WorkerContext) → h.me ≡ v → own_object h (a.object.serial + i) ≡ Some (new_row i low) → IsThere h a.number n (a.object.serial + i) (new_row i low) →
             h.worker.dead_nodes ≡ [] → W h.worker.run → Q (answers_settled h (own_id h (a.object.serial + i)))) →
-            W x.run → (z : Object) → item_at x.objects a.object.serial ≡ Some z → task_in z.maker ≡ Some task → Q (finished_reached start u a n rs)
+            W x.run → (z : Object) → item_at x.objects a.object.serial ≡ Some z → task_in z.source ≡ Some task → Q (finished_reached start u a n rs)
         row_answered Q stays W i low others answered runs z item is =
             let whole : Q (each_result answers_settled accepted_here a.object task) =
             rows_answered Q stays W v a.number n (a.object.serial + i) (new_row i low) others answered results accepted_here a.object.serial
@@ -422,7 +422,7 @@ module _ (s : Setting) (r : Running) (k : RunReplies s r) (calm : IsCalm r.log) 
 
   -- ---- an event that is taken
 
-  module _ (e : Event) (seat : ℕ) (handed : Handed) (step : Step) (answered : answer c e handed ≡ Takes step) where
+  module _ (e : Event) (seat : ℕ) (handed : CommitInput) (step : Step) (answered : answer c e handed ≡ Takes step) where
     abbrev hap : Happening
     hap = happening s r e seat step
 
@@ -436,14 +436,14 @@ module _ (s : Setting) (r : Running) (k : RunReplies s r) (calm : IsCalm r.log) 
     pub finish_owed : FinishIsAcknowledged hap
     finish_owed w v a n rs (i, is, sent) =
         let q : IsEnd i w v a n rs = end_of i w v a n rs sent in
-        let h : Here = here c v q.worker q.node in
+        let h : WorkerContext = here c v q.worker q.node in
         let out = delivered_out c i handed step (TheWorker w) v (Finished a n rs) q.worker q.node sent q.there q.lives q.home (as_delivery i is) in (
-          subst (λ ls. Among (letter (TheWorker v) (TheWorker w) (FinishedAck a)) ls) (sym out.1) (end_is_heard h w a n rs),
+          subst (λ ls. Among (envelope (TheWorker v) (TheWorker w) (FinishedAck a)) ls) (sym out.1) (end_is_heard h w a n rs),
           λ unaccepted. subst (λ es. Among (Accepted a) es) (sym out.0)
               (by_stage q h refl unaccepted (stage v a n q.own q.ended q.worker q.there q.lives q.object q.item)),
         )
       where
-        by_stage : (q : IsEnd i w v a n rs) (h : Here) → here c v q.worker q.node ≡ h → (Among (Accepted a) r.log → ⊥) → Stage a q.worker q.object →
+        by_stage : (q : IsEnd i w v a n rs) (h : WorkerContext) → here c v q.worker q.node ≡ h → (Among (Accepted a) r.log → ⊥) → Stage a q.worker q.object →
             Logged (Accepted a) (release_step (reached h (TheWorker w) (Finished a n rs)))
         by_stage q h same unaccepted (IsAccepted j) = absurd (unaccepted j)
         by_stage q h same unaccepted (Pends task made present knows none only) =
@@ -514,7 +514,7 @@ module _ (s : Setting) (r : Running) (k : RunReplies s r) (calm : IsCalm r.log) 
         one_birth p q e = cc
 
     pub accepted_owed : ((a : Attempt) → Among (Accepted a) step.entries → IsBrought c e a) → IsInStep s (r.log ++ In e seat ∷ step.entries) step.whole →
-        AtsAreKnown (r.log ++ In e seat ∷ step.entries) step.letters → AcceptedIsTold hap
+        AtsAreKnown (r.log ++ In e seat ∷ step.entries) step.envelopes → AcceptedIsTold hap
     accepted_owed brought after known_then y number n w m at logged request is =
         let a : Attempt = attempt at.part.born.object number in
         let f : IsBrought c e a = brought a logged in
@@ -526,10 +526,10 @@ module _ (s : Setting) (r : Running) (k : RunReplies s r) (calm : IsCalm r.log) 
         a = attempt at.part.born.object number
 
         by_stage : (f : IsBrought c e a) (q : IsEnd f.number f.sender f.owner a f.node f.results) →
-            step.letters ≡ (release_step (reached (here c f.owner q.worker q.node) (TheWorker f.sender) (Finished a f.node f.results))).there.out.letters →
-            Stage a q.worker q.object → Tells (r.log ++ In e seat ∷ step.entries) step.letters y w number n
-        by_stage f q letters (IsAccepted i) = absurd (not_twice a after logged i)
-        by_stage f q letters (Pends task made present knows unaccepted only) =
+            step.envelopes ≡ (release_step (reached (here c f.owner q.worker q.node) (TheWorker f.sender) (Finished a f.node f.results))).there.out.envelopes →
+            Stage a q.worker q.object → Tells (r.log ++ In e seat ∷ step.entries) step.envelopes y w number n
+        by_stage f q envelopes (IsAccepted i) = absurd (not_twice a after logged i)
+        by_stage f q envelopes (Pends task made present knows unaccepted only) =
             let at_y : worker_at c y.owner ≡ Some q.worker = subst (λ v. worker_at c v ≡ Some q.worker) (q.own ∙ row.owner) q.there in
             let awaited : IsAwaitedBy w old.0 = k.replies.askers w y m request is q.worker old.0 at_y q.lives (ap (item_at q.worker.objects) row.serial ∙ old.1) in
             let asks : has old.0.askers w ≡ true = elim awaited [
@@ -539,9 +539,9 @@ module _ (s : Setting) (r : Running) (k : RunReplies s r) (calm : IsCalm r.log) 
             let sent : Sent l (finished_reached h f.sender a f.node f.results) = row_answered f.owner a f.node q.own q.ended q.worker q.there q.lives f.results q.small task present knows unaccepted only q.node q.home
             lives f.sender (Sent l) (λ g o p. M.answers_settled-kept (Sent l) (sent_stays l) g o p) (λ _. Unit {0}) place row.within (λ _ _ _ _ _ _ _. tt)
             (λ g me there _ _ _. tells g me there asks) tt q.object q.item made in
-            let told : Among l step.letters = subst (λ ls. Among l ls) (sym letters) (sent_after l (finished_reached h f.sender a f.node f.results) sent) in
+            let told : Among l step.envelopes = subst (λ ls. Among l ls) (sym envelopes) (sent_after l (finished_reached h f.sender a f.node f.results) sent) in
             let by_owner =
-            subst (λ v. Among (letter (TheWorker v) (TheWorker w) (At y number (places_for f.node kept) kept)) step.letters) (q.own ∙ row.owner) told in
+            subst (λ v. Among (envelope (TheWorker v) (TheWorker w) (At y number (places_for f.node kept) kept)) step.envelopes) (q.own ∙ row.owner) told in
             record {
               nodes = places_for f.node kept;
               kept = kept;
@@ -562,7 +562,7 @@ module _ (s : Setting) (r : Running) (k : RunReplies s r) (calm : IsCalm r.log) 
             old : (z : Object) × (item_at q.worker.objects (a.object.serial + place) ≡ Some z) × (z.is_released ≡ false)
             old = row_of f.owner a f.node q.own q.ended q.worker q.there q.lives f.results q.small task present knows unaccepted only q.node q.home lives place row.within
 
-            h : Here
+            h : WorkerContext
             h = here c f.owner q.worker q.node
 
             new : Object
@@ -571,23 +571,23 @@ module _ (s : Setting) (r : Running) (k : RunReplies s r) (calm : IsCalm r.log) 
             kept : Option Outcome
             kept = new.kept
 
-            l : Letter
-            l = letter (TheWorker f.owner) (TheWorker w) (At y number (places_for f.node kept) kept)
+            l : Envelope
+            l = envelope (TheWorker f.owner) (TheWorker w) (At y number (places_for f.node kept) kept)
 
-            row_is : (g : Here) → g.me ≡ f.owner → own_id g (a.object.serial + place) ≡ y
+            row_is : (g : WorkerContext) → g.me ≡ f.owner → own_id g (a.object.serial + place) ≡ y
             row_is g me = ap (λ v. object_id v (a.object.serial + place)) (me ∙ q.own ∙ row.owner) ∙ ap (object_id y.owner) (sym row.serial)
 
-            tells : (g : Here) → g.me ≡ f.owner → own_object g (a.object.serial + place) ≡ Some new → has old.0.askers w ≡ true →
+            tells : (g : WorkerContext) → g.me ≡ f.owner → own_object g (a.object.serial + place) ≡ Some new → has old.0.askers w ≡ true →
                 Sent l (answers_settled g (own_id g (a.object.serial + place)))
             tells g me there asks =
                 let o : Id = own_id g (a.object.serial + place) in
                 let same : new.askers ≡ old.0.askers =
                 (rest_row f.owner a f.node q.own q.ended q.worker q.there q.lives f.results q.small task present knows unaccepted only q.node q.home lives place row.within).2.askers in
-                let told : Sent (letter (TheWorker g.me) (TheWorker w) (At o number (places_for f.node kept) kept)) (tells_places (changes g o without_askers) new.askers o new) =
+                let told : Sent (envelope (TheWorker g.me) (TheWorker w) (At o number (places_for f.node kept) kept)) (tells_places (changes g o without_askers) new.askers o new) =
                 askers_are_told (changes g o without_askers) new.askers o new w (ap (λ ws. has ws w) same ∙ asks) in
                 let as_l : Sent l (tells_places (changes g o without_askers) new.askers o new) =
-                subst (λ p. Sent (letter (TheWorker f.owner) (TheWorker w) (At p number (places_for f.node kept) kept)) (tells_places (changes g o without_askers) new.askers o new)) (row_is g me)
-                (subst (λ v. Sent (letter (TheWorker v) (TheWorker w) (At o number (places_for f.node kept) kept)) (tells_places (changes g o without_askers) new.askers o new)) me told) in
+                subst (λ p. Sent (envelope (TheWorker f.owner) (TheWorker w) (At p number (places_for f.node kept) kept)) (tells_places (changes g o without_askers) new.askers o new)) (row_is g me)
+                (subst (λ v. Sent (envelope (TheWorker v) (TheWorker w) (At o number (places_for f.node kept) kept)) (tells_places (changes g o without_askers) new.askers o new)) me told) in
                 subst (λ z. Sent l (answers_settled_by g o z)) (sym (own_here g (a.object.serial + place) ∙ there))
                 (M.needs_own_if_waiting-kept (Sent l) (sent_stays l) (tells_places (changes g o without_askers) new.askers o new) o as_l)
 

@@ -14,16 +14,16 @@ use Rattle.holding.proofs.Logged.{born_past}
 use Rattle.owed_replies.proofs.Objects.{there_is}
 use Rattle.protocol.specs.Answers.{Step, Takes, answer}
 use Rattle.protocol.specs.Deliveries.{reached}
-use Rattle.protocol.specs.Jobs.{Handed}
-use Rattle.protocol.specs.Messages.{At, Letter, Missing, TheWorker, Where, letter}
+use Rattle.protocol.specs.Jobs.{CommitInput}
+use Rattle.protocol.specs.Messages.{At, Envelope, Missing, TheWorker, Where, envelope}
 use Rattle.protocol.specs.Nodes.{Node}
 use Rattle.protocol.specs.Numbered.{changed_at, item_at}
 use Rattle.protocol.specs.Places.{hands_missing_on, is_present, takes_place, takes_place_by, where_reached}
 use Rattle.protocol.specs.Releases.{release_step}
 use Rattle.protocol.specs.Sets.{has, without_number}
-use Rattle.protocol.specs.Steps.{Here, changes, is_own, object_at}
+use Rattle.protocol.specs.Steps.{WorkerContext, changes, is_own, object_at}
 use Rattle.protocol.specs.Tables.{Object, Worker, is_whole, settled_number, without_place, is_nowhere}
-use Rattle.protocol.specs.Whole.{Whole, here, worker_at}
+use Rattle.protocol.specs.Cluster.{ClusterState, here, worker_at}
 use Rattle.lease_discipline.specs.of_protocol_legal.Made.{IsNotAt, EndsSmall}
 use Rattle.lease_discipline.specs.of_protocol_legal.Past.{past}
 use Rattle.lease_discipline.specs.of_protocol_legal.Says.{Says}
@@ -35,7 +35,7 @@ use Rattle.protocol_owed.proofs.Replying.{Sent, where_is_told}
 use Rattle.protocol_owed.proofs.Sets.{has-stays}
 use Rattle.lease_discipline.proofs.Events.{among_at}
 use Rattle.smallest_steps.proofs.Known.{changed_here}
-use Rattle.owed_replies.specs.Kept.{IsBornIn, IsRightLetter}
+use Rattle.owed_replies.specs.Kept.{IsBornIn, IsRightEnvelope}
 use Rattle.owed_replies.specs.Law.{happening}
 use Rattle.owed_replies.proofs.Advancing.{part_born, all_among, entry_born, owner_has}
 use Rattle.owed_replies.proofs.Contents.{AtsAreKnown}
@@ -45,7 +45,7 @@ use Rattle.owed_replies.proofs.Quiet.{HasContentAt, IsHad, node_alive, none_lost
 use Rattle.owed_replies.proofs.Runs.{RunReplies}
 
 module _ (s : Setting) (r : Running) (k : RunReplies s r) (calm : IsCalm r.log) where
-  abbrev c : Whole
+  abbrev c : ClusterState
   c = r.whole
 
   abbrev b : Between s r.log r.whole
@@ -78,8 +78,8 @@ module _ (s : Setting) (r : Running) (k : RunReplies s r) (calm : IsCalm r.log) 
 
   -- ---- an event that is taken
 
-  module _ (e : Event) (seat : ℕ) (handed : Handed) (step : Step) (answered : answer c e handed ≡ Takes step)
-      (known_then : AtsAreKnown (r.log ++ In e seat ∷ step.entries) step.letters) where
+  module _ (e : Event) (seat : ℕ) (handed : CommitInput) (step : Step) (answered : answer c e handed ≡ Takes step)
+      (known_then : AtsAreKnown (r.log ++ In e seat ∷ step.entries) step.envelopes) where
     abbrev then_log : List Entry
     then_log = r.log ++ In e seat ∷ step.entries
 
@@ -98,10 +98,10 @@ module _ (s : Setting) (r : Running) (k : RunReplies s r) (calm : IsCalm r.log) 
     same_number : (m n : ℕ) → (m == n) ≡ true → m ≡ n
     same_number m n f = grind (arith, nat_tests)
 
-    told_so : (y : Id) (w number n : ℕ) (z : Object) → HasContentAt z number n → Among (letter (TheWorker y.owner) (TheWorker w) (At y (settled_number z) z.places z.kept)) step.letters →
-        Tells then_log step.letters y w number n
+    told_so : (y : Id) (w number n : ℕ) (z : Object) → HasContentAt z number n → Among (envelope (TheWorker y.owner) (TheWorker w) (At y (settled_number z) z.places z.kept)) step.envelopes →
+        Tells then_log step.envelopes y w number n
     told_so y w number n z q told =
-        let sent = subst (λ i. Among (letter (TheWorker y.owner) (TheWorker w) (At y i z.places z.kept)) step.letters) q.number_is told in
+        let sent = subst (λ i. Among (envelope (TheWorker y.owner) (TheWorker w) (At y i z.places z.kept)) step.envelopes) q.number_is told in
         record {
           nodes = z.places;
           kept = z.kept;
@@ -135,34 +135,34 @@ module _ (s : Setting) (r : Running) (k : RunReplies s r) (calm : IsCalm r.log) 
         let out = delivered_out c i handed step (TheWorker w) y.owner m x.0 node.0 sent x.1 x.2 node.1 (as_delivery i is) in
         by_message x.0 node.0 z.0 x.1 z.1 content out.1 request
       where
-        l : Letter
-        l = letter (TheWorker w) (TheWorker y.owner) m
+        l : Envelope
+        l = envelope (TheWorker w) (TheWorker y.owner) m
 
         by_message : (x : Worker) (node : Node) (z : Object) → worker_at c y.owner ≡ Some x → item_at x.objects y.serial ≡ Some z → IsHad r.log y z number n →
-            step.letters ≡ (release_step (reached (here c y.owner x node) (TheWorker w) m)).there.out.letters → IsRequest y m → Tells then_log step.letters y w number n
-        by_message x node z at there (content, big) letters (inl where_is) =
-            let h : Here = here c y.owner x node in
-            let right : IsRightLetter r.log (letter (TheWorker w) (TheWorker y.owner) (Where y)) =
-            subst (λ q. IsRightLetter r.log (letter (TheWorker w) (TheWorker y.owner) q)) where_is (k.replies.letters l (among_at c.network i l sent)) in
+            step.envelopes ≡ (release_step (reached (here c y.owner x node) (TheWorker w) m)).there.out.envelopes → IsRequest y m → Tells then_log step.envelopes y w number n
+        by_message x node z at there (content, big) envelopes (inl where_is) =
+            let h : WorkerContext = here c y.owner x node in
+            let right : IsRightEnvelope r.log (envelope (TheWorker w) (TheWorker y.owner) (Where y)) =
+            subst (λ q. IsRightEnvelope r.log (envelope (TheWorker w) (TheWorker y.owner) q)) where_is (k.replies.envelopes l (among_at c.network i l sent)) in
             let item : object_at h y ≡ Some z = ap (λ t. if t then item_at x.objects y.serial else None) (own_now y.owner y.owner refl) ∙ there in
             told_so y w number n z content
-            (subst (λ ls. Among (letter (TheWorker y.owner) (TheWorker w) (At y (settled_number z) z.places z.kept)) ls) (sym letters)
-            (subst (λ q. Sent (letter (TheWorker y.owner) (TheWorker w) (At y (settled_number z) z.places z.kept)) (release_step (reached h (TheWorker w) q))) (sym where_is)
+            (subst (λ ls. Among (envelope (TheWorker y.owner) (TheWorker w) (At y (settled_number z) z.places z.kept)) ls) (sym envelopes)
+            (subst (λ q. Sent (envelope (TheWorker y.owner) (TheWorker w) (At y (settled_number z) z.places z.kept)) (release_step (reached h (TheWorker w) q))) (sym where_is)
             (where_is_told h y w z item content.unfaulted content.whole (other_way w y.owner right.1))))
-        by_message x node z at there (content, big) letters (inr (number', j, missing_is)) =
-            let h : Here = here c y.owner x node in
-            let right : IsRightLetter r.log (letter (TheWorker w) (TheWorker y.owner) (Missing y number' j)) =
-            subst (λ q. IsRightLetter r.log (letter (TheWorker w) (TheWorker y.owner) q)) missing_is (k.replies.letters l (among_at c.network i l sent)) in
-            let says : Says (past r.log b.asked) (letter (TheWorker w) (TheWorker y.owner) (Missing y number' j)) =
-            subst (λ q. Says (past r.log b.asked) (letter (TheWorker w) (TheWorker y.owner) q)) missing_is (all_among (Says (past r.log b.asked)) c.network l b.knows.told (among_at c.network i l sent)) in
+        by_message x node z at there (content, big) envelopes (inr (number', j, missing_is)) =
+            let h : WorkerContext = here c y.owner x node in
+            let right : IsRightEnvelope r.log (envelope (TheWorker w) (TheWorker y.owner) (Missing y number' j)) =
+            subst (λ q. IsRightEnvelope r.log (envelope (TheWorker w) (TheWorker y.owner) q)) missing_is (k.replies.envelopes l (among_at c.network i l sent)) in
+            let says : Says (past r.log b.asked) (envelope (TheWorker w) (TheWorker y.owner) (Missing y number' j)) =
+            subst (λ q. Says (past r.log b.asked) (envelope (TheWorker w) (TheWorker y.owner) q)) missing_is (all_among (Says (past r.log b.asked)) c.network l b.knows.told (among_at c.network i l sent)) in
             let own : is_own h y ≡ true = own_now y.owner y.owner refl in
             let item : object_at h y ≡ Some z = ap (λ t. if t then item_at x.objects y.serial else None) own ∙ there in
             let other : (w == y.owner) ≡ false = other_way w y.owner right.1 in
-            let reached_so : step.letters ≡ (release_step (where_reached (takes_place_by h y number' j (Some z)) w y)).there.out.letters =
-            letters ∙ ap (λ q. (release_step (reached h (TheWorker w) q)).there.out.letters) missing_is ∙
-            ap (λ t. (release_step (if t then where_reached (takes_place h y number' j) w y else hands_missing_on h y number' j)).there.out.letters) own ∙
-            ap (λ o. (release_step (where_reached (takes_place_by h y number' j o) w y)).there.out.letters) item in
-            at_test (λ t. is_present number' z ≡ t → step.letters ≡ (release_step (where_reached (if t then changes h y (without_place j) else h) w y)).there.out.letters → Tells then_log step.letters y w number n)
+            let reached_so : step.envelopes ≡ (release_step (where_reached (takes_place_by h y number' j (Some z)) w y)).there.out.envelopes =
+            envelopes ∙ ap (λ q. (release_step (reached h (TheWorker w) q)).there.out.envelopes) missing_is ∙
+            ap (λ t. (release_step (if t then where_reached (takes_place h y number' j) w y else hands_missing_on h y number' j)).there.out.envelopes) own ∙
+            ap (λ o. (release_step (where_reached (takes_place_by h y number' j o) w y)).there.out.envelopes) item in
+            at_test (λ t. is_present number' z ≡ t → step.envelopes ≡ (release_step (where_reached (if t then changes h y (without_place j) else h) w y)).there.out.envelopes → Tells then_log step.envelopes y w number n)
             (is_present number' z)
             (λ _ present so.
             let none : z.kept ≡ None = none_of z.kept (and_right (is_some z.settled && (settled_number z == number') && not z.is_released) (is_none z.kept) present) in
@@ -170,12 +170,12 @@ module _ (s : Setting) (r : Running) (k : RunReplies s r) (calm : IsCalm r.log) 
             (and_left (is_some z.settled && (settled_number z == number')) (not z.is_released) (and_left (is_some z.settled && (settled_number z == number') && not z.is_released) (is_none z.kept) present))) in
             let apart : n ≢ j = missed_elsewhere y x z number n j at there known unreleased (big none) (subst (λ q. IsNotAt r.log y q j) (sym same ∙ content.number_is) says) in
             let left : HasContentAt (without_place j z) number n = without_other z number n j apart content in
-            let g : Here = changes h y (without_place j) in
+            let g : WorkerContext = changes h y (without_place j) in
             let now : object_at g y ≡ Some (without_place j z) =
             ap (λ t. if t then item_at (changed_at x.objects y.serial (without_place j)) y.serial else None) own ∙ changed_here x.objects y.serial (without_place j) z there in
             told_so y w number n (without_place j z) left
-            (subst (λ ls. Among (letter (TheWorker y.owner) (TheWorker w) (At y (settled_number (without_place j z)) (without_place j z).places z.kept)) ls) (sym so)
+            (subst (λ ls. Among (envelope (TheWorker y.owner) (TheWorker w) (At y (settled_number (without_place j z)) (without_place j z).places z.kept)) ls) (sym so)
             (where_is_told g y w (without_place j z) now left.unfaulted left.whole other)))
             (λ _ _ so. told_so y w number n z content
-            (subst (λ ls. Among (letter (TheWorker y.owner) (TheWorker w) (At y (settled_number z) z.places z.kept)) ls) (sym so)
+            (subst (λ ls. Among (envelope (TheWorker y.owner) (TheWorker w) (At y (settled_number z) z.places z.kept)) ls) (sym so)
             (where_is_told h y w z item content.unfaulted content.whole other))) refl reached_so

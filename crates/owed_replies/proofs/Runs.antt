@@ -14,15 +14,15 @@ use Rattle.event_log.specs.Words.{ends_of}
 use Rattle.event_log.proofs.EventLaws.{accepted-refused}
 use Rattle.protocol.specs.Answers.{Answer, Refuses, answer, decided, given_out, logged, takes, whole_after}
 use Rattle.protocol.specs.Events.{happens}
-use Rattle.protocol.specs.Jobs.{Handed}
-use Rattle.protocol.specs.Messages.{TheWorker, letter}
+use Rattle.protocol.specs.Jobs.{CommitInput}
+use Rattle.protocol.specs.Messages.{TheWorker, envelope}
 use Rattle.protocol.specs.Refusals.{is_within_limits, refusal}
-use Rattle.protocol.specs.Tables.{HasEnded, HasFaulted, Out, Phase, Ready, Run, Waits, Worker, has_stopped}
-use Rattle.protocol.specs.Whole.{Whole, first_whole, main_run, worker_at}
+use Rattle.protocol.specs.Tables.{HasEnded, HasFaulted, Out, Phase, Ready, Execution, Waits, Worker, has_stopped}
+use Rattle.protocol.specs.Cluster.{ClusterState, first_whole, main_run, worker_at}
 use Rattle.lease_discipline.specs.of_protocol_laws.Coming.{IsRight}
 use Rattle.protocol_owed.specs.Runs.{Handing, Running, after_event, after_events, opening_run}
 use Rattle.protocol_owed.specs.Seen.{IsCalm, delivered_in}
-use Rattle.protocol_owed.proofs.Letters.{among-append_cases, among-nothing}
+use Rattle.protocol_owed.proofs.Envelopes.{among-append_cases, among-nothing}
 use Rattle.lease_discipline.specs.Slots.{AreRight}
 use Rattle.lease_discipline.specs.Told.{IsInStep}
 use Rattle.lease_discipline.proofs.Opening.{only_driver}
@@ -40,7 +40,7 @@ use Rattle.owed_replies.proofs.Quiet.{all_live}
 
 pub opening_keeps_replies : OpeningKeepsReplies
 opening_keeps_replies nodes slots = record {
-  letters = λ l i. absurd (among-nothing l i);
+  envelopes = λ l i. absurd (among-nothing l i);
   runs = λ w x run at is. subst (RunIsRight opening [] w) (main_is w x run at is) (record {
     needs = λ y e. absurd (cc);
     holds = λ k i. absurd (among-nothing k i);
@@ -49,16 +49,16 @@ opening_keeps_replies nodes slots = record {
   });
   in_time = λ w x run at is. subst IsOverInTime (main_is w x run at is) (λ e. absurd (cc));
   delivered = λ k i. absurd (among-nothing _ (subst (λ es. Among (Deliver k) es) accepted_none i));
-  askers = λ v y m i. absurd (among-nothing _ (subst (λ es. Among (letter (TheWorker v) (TheWorker y.owner) m) (flat_map (delivered_in []) es)) accepted_none i));
+  askers = λ v y m i. absurd (among-nothing _ (subst (λ es. Among (envelope (TheWorker v) (TheWorker y.owner) m) (flat_map (delivered_in []) es)) accepted_none i));
   ends = λ a b i. absurd (no_end a b i);
 }
   where
-    main_is : (w : ℕ) (x : Worker) (run : Run) → worker_at (first_whole nodes slots) w ≡ Some x → x.run ≡ Some run → main_run ≡ run
+    main_is : (w : ℕ) (x : Worker) (run : Execution) → worker_at (first_whole nodes slots) w ≡ Some x → x.run ≡ Some run → main_run ≡ run
     main_is w x run at is =
         let d = only_driver w x at in
         same (ap (λ (y : Worker). y.run) d.1 ∙ is)
       where
-        same : ◌≡◌ {A = Option Run} (Some main_run) (Some run) → main_run ≡ run
+        same : ◌≡◌ {A = Option Execution} (Some main_run) (Some run) → main_run ≡ run
         same e = cc
 
     no_end : (a : Attempt) (b : List Outcome) → Among (Ended a b) opening → ⊥
@@ -68,11 +68,11 @@ opening_keeps_replies nodes slots = record {
 
 -- ---- every event
 
-refused_keeps : (log : List Entry) (c : Whole) (e : Event) (seat : ℕ) (code : Refusal) → KeepsReplies log c → KeepsReplies (log ++ In e seat ∷ Refused code ∷ []) c
+refused_keeps : (log : List Entry) (c : ClusterState) (e : Event) (seat : ℕ) (code : Refusal) → KeepsReplies log c → KeepsReplies (log ++ In e seat ∷ Refused code ∷ []) c
 refused_keeps log c e seat code k =
     let same : accepted_events (log ++ In e seat ∷ Refused code ∷ []) ≡ accepted_events log = accepted-refused log e seat code in
     record {
-      letters = λ l i. right_more log (In e seat ∷ Refused code ∷ []) l.sender l.receiver l.message (k.letters l i);
+      envelopes = λ l i. right_more log (In e seat ∷ Refused code ∷ []) l.sender l.receiver l.message (k.envelopes l i);
       runs = λ w x run at is. let r = k.runs w x run at is in record {
         needs = λ y f foreign. known_more log (In e seat ∷ Refused code ∷ []) y (r.needs y f foreign);
         holds = λ j i. born_more log (In e seat ∷ Refused code ∷ []) j.object (r.holds j i);
@@ -81,7 +81,7 @@ refused_keeps log c e seat code k =
       };
       in_time = k.in_time;
       delivered = λ i j. k.delivered i (subst (λ es. Among (Deliver i) es) same j);
-      askers = λ v y m i. k.askers v y m (subst (λ es. Among (letter (TheWorker v) (TheWorker y.owner) m) (flat_map (delivered_in c.network) es)) same i);
+      askers = λ v y m i. k.askers v y m (subst (λ es. Among (envelope (TheWorker v) (TheWorker y.owner) m) (flat_map (delivered_in c.network) es)) same i);
       ends = λ a b i. elim (among-append_cases log (In e seat ∷ Refused code ∷ []) (Ended a b) i) [ inl old ↦ k.ends a b old | inr new ↦ absurd (no_end a b new) ];
     }
   where
@@ -90,7 +90,7 @@ refused_keeps log c e seat code k =
     no_end a b (suc zero, f) = cc
     no_end a b (suc (suc j), f) = cc
 
-module _ (s : Setting) (log : List Entry) (c : Whole) (e : Event) (seat : ℕ) (handed : Handed) (before : IsInStep s log c) (k : KeepsReplies log c) where
+module _ (s : Setting) (log : List Entry) (c : ClusterState) (e : Event) (seat : ℕ) (handed : CommitInput) (before : IsInStep s log c) (k : KeepsReplies log c) where
   abbrev After : Answer → Type 0
   After a = IsInStep s (log ++ logged e seat a) (whole_after c a)
 
@@ -137,7 +137,7 @@ run_replies s slots some apart gs right =
 -- ---- ends
 
 -- a present attempt that ended has stopped
-ended_stops : (s : Setting) (log : List Entry) (c : Whole) → Between s log c → (w : ℕ) (x : Worker) (run : Run) → worker_at c w ≡ Some x → x.is_live ≡ true → x.run ≡ Some run →
+ended_stops : (s : Setting) (log : List Entry) (c : ClusterState) → Between s log c → (w : ℕ) (x : Worker) (run : Execution) → worker_at c w ≡ Some x → x.is_live ≡ true → x.run ≡ Some run →
     (b : List Outcome) → Among (Ended run.attempt b) log → has_stopped run.phase ≡ true
 ended_stops s log c b w x run at live is d i = by_phase run.phase refl
   where

@@ -11,9 +11,9 @@ use Rattle.event_log.specs.Words.{same_attempt}
 use Rattle.protocol.specs.Messages.{At, TheWorker}
 use Rattle.protocol.specs.Numbered.{changed_at, item_at}
 use Rattle.protocol.specs.Sets.{has, is_empty, with_number}
-use Rattle.protocol.specs.Tables.{HasFaulted, Object, Run, Worker, has_content, has_stopped, is_lost, is_whole, knows_dead, owner_of, settled_number}
+use Rattle.protocol.specs.Tables.{HasFaulted, Object, Execution, Worker, has_content, has_stopped, is_lost, is_whole, knows_dead, owner_of, settled_number}
 use Rattle.protocol.specs.Tables.{with_asker, without_place, is_nowhere}
-use Rattle.protocol.specs.Steps.{Here, changes, is_own, object_at, own_object, says, with_run}
+use Rattle.protocol.specs.Steps.{WorkerContext, changes, is_own, object_at, own_object, says, with_run}
 use Rattle.protocol.specs.Runs.{is_heard, leaves, leaves_by, leaves_if_free, tells}
 use Rattle.protocol.specs.Places.{answers_asker, answers_unsettled, asker_by, hands_missing_on, is_present, lets_wait, missing_reached, takes_place, tells_released, takes_place_by, where_reached}
 use Rattle.protocol.specs.Recovery.{recovers}
@@ -29,22 +29,22 @@ pub record Steady (xs : List Object) (a : Option Attempt) (x : Worker) : Type 0 
   pub attempt : attempt_by x.run ≡ a
 
 module _ (xs : List Object) (a : Option Attempt) where
-  abbrev pub IsSteady : Here → Type 0
+  abbrev pub IsSteady : WorkerContext → Type 0
   IsSteady h = Steady xs a h.worker
 
-  run_steady : (h : Here) (run next : Run) → h.worker.run ≡ Some run → next.attempt ≡ run.attempt → IsSteady h → IsSteady (with_run h next)
+  run_steady : (h : WorkerContext) (run next : Execution) → h.worker.run ≡ Some run → next.attempt ≡ run.attempt → IsSteady h → IsSteady (with_run h next)
   run_steady h run next e same s = record { grows = s.grows; attempt = ap (λ b. Some b) same ∙ sym (ap attempt_by e) ∙ s.attempt }
 
-  told_worker : (h : Here) (over : Run) → (tells h over).worker ≡ (with_run h over).worker
+  told_worker : (h : WorkerContext) (over : Execution) → (tells h over).worker ≡ (with_run h over).worker
   told_worker h over = tells_stop-worker (with_run h over) over over.phase
 
-  pub leaves_steady : (h : Here) → IsSteady h → IsSteady (leaves_if_free h)
+  pub leaves_steady : (h : WorkerContext) → IsSteady h → IsSteady (leaves_if_free h)
   leaves_steady h s = by_run h.worker.run refl
     where
-      by_run : (r : Option Run) → h.worker.run ≡ r → IsSteady (leaves_by h r)
+      by_run : (r : Option Execution) → h.worker.run ≡ r → IsSteady (leaves_by h r)
       by_run None e = s
       by_run (Some run) e =
-          let over : Run = record run { is_over = true } in
+          let over : Execution = record run { is_over = true } in
           let told : IsSteady (tells h over) = subst (Steady xs a) (sym (told_worker h over)) (run_steady h run over e refl s) in
           at_test (λ b. IsSteady (if b then leaves h over else h)) (has_stopped run.phase && not run.is_over && is_empty run.holds)
           (λ _. at_test (λ b. IsSteady (if b then with_run h (record over { is_acknowledged = true }) else
@@ -91,8 +91,8 @@ has_asker ws v = at_test (λ b. has ws v ≡ b → has (if b then ws else ws ++ 
     equal : (n : ℕ) → (n == n) ≡ true
     equal n = grind (arith, nat_tests)
 
-module _ (h : Here) (v : ℕ) (o : Id) where
-  abbrev Awaited : Here → Type 0
+module _ (h : WorkerContext) (v : ℕ) (o : Id) where
+  abbrev Awaited : WorkerContext → Type 0
   Awaited g = IsAwaited o.serial v g.worker.objects
 
   waits_now : (x : Object) → item_at h.worker.objects o.serial ≡ Some x → Awaited (changes h o (with_asker v))
@@ -104,7 +104,7 @@ module _ (h : Here) (v : ℕ) (o : Id) where
 
   lets_it_wait : (x : Object) → item_at h.worker.objects o.serial ≡ Some x → Awaited (lets_wait h o v x)
   lets_it_wait x at =
-      let g : Here = changes h o (with_asker v) in
+      let g : WorkerContext = changes h o (with_asker v) in
       at_test (λ b. Awaited (if b then recovers g o else g)) (is_lost h.worker.objects x)
       (λ _. still_awaited o.serial v g.worker.objects (recovers g o).worker.objects
       (recovers-kept (IsSteady g.worker.objects (attempt_by g.worker.run)) (steady_kept g.worker.objects (attempt_by g.worker.run)) g o
@@ -138,7 +138,7 @@ module _ (h : Here) (v : ℕ) (o : Id) where
       (subst (λ b. Awaited (if b then h else answers_asker h o v x x.fault)) (sym other) (asker_waits x (looked_up h o x at) rests x.fault refl))
 
 -- after a place was taken out too
-pub missing_waits : (h : Here) (v : ℕ) (o : Id) (number n : ℕ) (x : Object) → is_own h o ≡ true → item_at h.worker.objects o.serial ≡ Some x →
+pub missing_waits : (h : WorkerContext) (v : ℕ) (o : Id) (number n : ℕ) (x : Object) → is_own h o ≡ true → item_at h.worker.objects o.serial ≡ Some x →
     (x.is_released ≡ true → x.fault ≡ None → is_some x.settled ≡ true) → (v == h.me) ≡ false →
     IsAwaited o.serial v (missing_reached h (TheWorker v) o number n).worker.objects
 missing_waits h v o number n x own at rests other =

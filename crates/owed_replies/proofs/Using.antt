@@ -12,23 +12,23 @@ use Rattle.event_log.specs.Words.{attempt}
 use Rattle.protocol.specs.Answers.{Step, Takes, answer}
 use Rattle.protocol.specs.Deliveries.{reached}
 use Rattle.protocol.specs.Ends.{finished_reached}
-use Rattle.protocol.specs.Jobs.{Handed}
-use Rattle.protocol.specs.Messages.{Fetch, Finished, letter, Letter, TheNode, TheWorker}
+use Rattle.protocol.specs.Jobs.{CommitInput}
+use Rattle.protocol.specs.Messages.{Fetch, Finished, envelope, Envelope, TheNode, TheWorker}
 use Rattle.protocol.specs.Places.{answers_settled}
 use Rattle.protocol.specs.Places.{needs_own_if_waiting, tells_places}
 use Rattle.protocol.specs.Releases.{release_step}
 use Rattle.protocol.specs.Sets.{object_id}
 use Rattle.protocol.specs.Stores.{looked_up}
-use Rattle.protocol.specs.Steps.{changes, Here, own_id, own_object, store_here, with_phase, with_store}
+use Rattle.protocol.specs.Steps.{changes, WorkerContext, own_id, own_object, store_here, with_phase, with_store}
 use Rattle.protocol.specs.Tables.{is_same_id, is_waiting_for, needed_by, Object, object_needed}
-use Rattle.protocol.specs.Tables.{Run, settled_number, Waits, without_askers}
+use Rattle.protocol.specs.Tables.{Execution, settled_number, Waits, without_askers}
 use Rattle.protocol.specs.Tables.{Worker}
-use Rattle.protocol.specs.Whole.{Whole, here, worker_at}
+use Rattle.protocol.specs.Cluster.{ClusterState, here, worker_at}
 use Rattle.lease_discipline.specs.of_protocol_legal.Whole.{Between, setting_of}
 use Rattle.protocol_owed.specs.Replies.{AcceptedIsUsed, Happening, IsGot, SaysFetch}
 use Rattle.protocol_owed.specs.Runs.{Running}
 use Rattle.protocol_owed.specs.Seen.{IsCalm}
-use Rattle.protocol_owed.proofs.Letters.{among-last}
+use Rattle.protocol_owed.proofs.Envelopes.{among-last}
 use Rattle.protocol_owed.proofs.Replying.{gets_it, Logged, logged_after, logged_stays, Sent, sent_after, sent_stays}
 use Rattle.lease_discipline.specs.Told.{IsInStep}
 use Rattle.owed_replies.specs.Law.{happening}
@@ -44,30 +44,30 @@ use Rattle.owed_replies.proofs.Waiting.{IsWaiting, waits_so}
 -- ---- the owner looks for a content that is there
 
 -- it is answered, or fetches
-abbrev pub IsServed : Run → ℕ → Id → Here → Type 0
+abbrev pub IsServed : Execution → ℕ → Id → WorkerContext → Type 0
 IsServed run me y g =
-    ((d : Outcome) × Logged (Got run.attempt y d) g) ⊎ ((n number : ℕ) × Sent (letter (TheWorker me) (TheNode n) (Fetch y number)) g)
+    ((d : Outcome) × Logged (Got run.attempt y d) g) ⊎ ((n number : ℕ) × Sent (envelope (TheWorker me) (TheNode n) (Fetch y number)) g)
 
-served_stays : (run : Run) (me : ℕ) (y : Id) (h : Here) (o : Id) → IsServed run me y h → IsServed run me y (answers_settled h o)
+served_stays : (run : Execution) (me : ℕ) (y : Id) (h : WorkerContext) (o : Id) → IsServed run me y h → IsServed run me y (answers_settled h o)
 served_stays run me y h o (inl q) = inl (q.0, M.answers_settled-kept (Logged (Got run.attempt y q.0)) (logged_stays (Got run.attempt y q.0)) h o q.1)
 served_stays run me y h o (inr q) =
-    let l : Letter = letter (TheWorker me) (TheNode q.0) (Fetch y q.1) in
+    let l : Envelope = envelope (TheWorker me) (TheNode q.0) (Fetch y q.1) in
     inr (q.0, q.1, M.answers_settled-kept (Sent l) (sent_stays l) h o q.2)
 
 module _ (s : Setting) (r : Running) (k : RunReplies s r) (calm : IsCalm r.log) where
-  abbrev c : Whole
+  abbrev c : ClusterState
   c = r.whole
 
   abbrev b : Between s r.log r.whole
   b = k.step.sound.between
 
   -- the answer to what the owner's own attempt waits for
-  answer_serves : (h : Here) (number n t : ℕ) (z : Object) (run : Run) → own_object h t ≡ Some z → IsThere h number n t z → h.worker.dead_nodes ≡ [] → h.worker.run ≡ Some run →
+  answer_serves : (h : WorkerContext) (number n t : ℕ) (z : Object) (run : Execution) → own_object h t ≡ Some z → IsThere h number n t z → h.worker.dead_nodes ≡ [] → h.worker.run ≡ Some run →
       object_needed run.phase ≡ Some (own_id h t) → IsServed run h.me (own_id h t) (answers_settled h (own_id h t))
   answer_serves h number n t z run at there no_dead is needs =
       let o : Id = own_id h t in
-      let f : Here = changes h o without_askers in
-      let told : Here = tells_places f z.askers o z in
+      let f : WorkerContext = changes h o without_askers in
+      let told : WorkerContext = tells_places f z.askers o z in
       let same : told.worker ≡ f.worker = tells-worker f z.askers o z in
       let me_same : told.me ≡ h.me = tells-me f z.askers o z in
       let now : IsServed run told.me o (needs_own_if_waiting told o) =
@@ -76,10 +76,10 @@ module _ (s : Setting) (r : Running) (k : RunReplies s r) (calm : IsCalm r.log) 
       (stored_there h number n t z at there no_dead)
       (λ y e d. inl (d, gets_it (with_phase told run (Waits y None)) (record run { phase = Waits y None }) d o refl (ap (λ i. Some i) e)))
       (λ y e d. inl (d, gets_it (with_store (with_phase told run (Waits y None)) (looked_up (store_here told) o (settled_number z))) (record run { phase = Waits y None }) d o refl (ap (λ i. Some i) e)))
-      (λ y e m. inr (m, settled_number z, among-last told.there.out.letters (letter (TheWorker told.me) (TheNode m) (Fetch o (settled_number z))))) needs in
+      (λ y e m. inr (m, settled_number z, among-last told.there.out.envelopes (envelope (TheWorker told.me) (TheNode m) (Fetch o (settled_number z))))) needs in
       subst (IsServed run h.me o) (sym (answer_is h number n t z at there no_dead)) (subst (λ w. IsServed run w o (needs_own_if_waiting told o)) me_same now)
 
-  module _ (e : Event) (seat : ℕ) (handed : Handed) (step : Step) (answered : answer c e handed ≡ Takes step) where
+  module _ (e : Event) (seat : ℕ) (handed : CommitInput) (step : Step) (answered : answer c e handed ≡ Takes step) where
     abbrev hap : Happening
     hap = happening s r e seat step
 
@@ -100,10 +100,10 @@ module _ (s : Setting) (r : Running) (k : RunReplies s r) (calm : IsCalm r.log) 
 
         by_stage : (f : IsBrought c e d) (q : IsEnd s r k calm f.number f.sender f.owner d f.node f.results) →
             step.entries ≡ (release_step (reached (here c f.owner q.worker q.node) (TheWorker f.sender) (Finished d f.node f.results))).there.out.entries →
-            step.letters ≡ (release_step (reached (here c f.owner q.worker q.node) (TheWorker f.sender) (Finished d f.node f.results))).there.out.letters →
+            step.envelopes ≡ (release_step (reached (here c f.owner q.worker q.node) (TheWorker f.sender) (Finished d f.node f.results))).there.out.envelopes →
             IsWaiting s r k calm y.owner a y → Stage s r k calm d q.worker q.object → IsGot hap a y ⊎ SaysFetch hap y.owner y
-        by_stage f q entries letters w (IsAccepted i) = absurd (not_twice s r k calm e seat handed step answered d after logged i)
-        by_stage f q entries letters w (Pends task made present knows unaccepted only) =
+        by_stage f q entries envelopes w (IsAccepted i) = absurd (not_twice s r k calm e seat handed step answered d after logged i)
+        by_stage f q entries envelopes w (Pends task made present knows unaccepted only) =
             elim result [
               | inl g ↦ inl (
                 g.0,
@@ -113,16 +113,16 @@ module _ (s : Setting) (r : Running) (k : RunReplies s r) (calm : IsCalm r.log) 
               | inr g ↦ inr (
                 g.0,
                 g.1,
-                subst (λ v. Among (letter (TheWorker v) (TheNode g.0) (Fetch y g.1)) step.letters) (q.own ∙ row.owner)
-                    (subst (λ ls. Among (letter (TheWorker f.owner) (TheNode g.0) (Fetch y g.1)) ls) (sym letters)
-                    (sent_after (letter (TheWorker f.owner) (TheNode g.0) (Fetch y g.1)) (finished_reached h f.sender d f.node f.results) g.2)),
+                subst (λ v. Among (envelope (TheWorker v) (TheNode g.0) (Fetch y g.1)) step.envelopes) (q.own ∙ row.owner)
+                    (subst (λ ls. Among (envelope (TheWorker f.owner) (TheNode g.0) (Fetch y g.1)) ls) (sym envelopes)
+                    (sent_after (envelope (TheWorker f.owner) (TheNode g.0) (Fetch y g.1)) (finished_reached h f.sender d f.node f.results) g.2)),
               )
             ]
           where
             place : ℕ
             place = y.serial - part.born.object.serial
 
-            h : Here
+            h : WorkerContext
             h = here c f.owner q.worker q.node
 
             row : IsRowOf s r k calm e seat handed step answered d task.spec y place
@@ -138,11 +138,11 @@ module _ (s : Setting) (r : Running) (k : RunReplies s r) (calm : IsCalm r.log) 
             run_is : q.worker.run ≡ Some w.run
             run_is = ap (λ (x : Worker). x.run) (sym (same_worker w.worker q.worker (sym w.there ∙ at_owner))) ∙ w.at
 
-            row_is : (g : Here) → g.me ≡ f.owner → own_id g (d.object.serial + place) ≡ y
+            row_is : (g : WorkerContext) → g.me ≡ f.owner → own_id g (d.object.serial + place) ≡ y
             row_is g me = ap (λ v. object_id v (d.object.serial + place)) (me ∙ q.own ∙ row.owner) ∙ ap (object_id y.owner) (sym row.serial)
 
             -- no other object is waited for
-            not_other : (g : Here) (j : ℕ) → j ≢ d.object.serial + place → g.worker.run ≡ Some w.run → is_waiting_for g.worker (own_id g j) ≡ false
+            not_other : (g : WorkerContext) (j : ℕ) → j ≢ d.object.serial + place → g.worker.run ≡ Some w.run → is_waiting_for g.worker (own_id g j) ≡ false
             not_other g j apart is = by_test (is_waiting_for g.worker (own_id g j)) refl
               where
                 needed : is_waiting_for g.worker (own_id g j) ≡ same_id y (own_id g j)

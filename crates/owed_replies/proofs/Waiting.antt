@@ -14,16 +14,16 @@ use Rattle.event_log.specs.Events.{node_of}
 use Rattle.event_log.specs.Rules.{Setting, Stops}
 use Rattle.event_log.specs.Words.{answers_of}
 use Rattle.protocol.specs.Answers.{Step, Takes, answer}
-use Rattle.protocol.specs.Jobs.{Handed}
-use Rattle.protocol.specs.Messages.{At, Fetch, Hold, HoldAck, Letter, Missing, TheNode, TheWorker, letter}
+use Rattle.protocol.specs.Jobs.{CommitInput}
+use Rattle.protocol.specs.Messages.{At, Fetch, Hold, HoldAck, Envelope, Missing, TheNode, TheWorker, envelope}
 use Rattle.protocol.specs.Deliveries.{reached}
 use Rattle.protocol.specs.Numbered.{item_at}
 use Rattle.protocol.specs.Releases.{release_step}
 use Rattle.protocol.specs.Sets.{has, is_empty}
-use Rattle.protocol.specs.Steps.{Here, object_at}
-use Rattle.protocol.specs.Tables.{HasEnded, HasFaulted, Out, Phase, Ready, Run, Waits, Worker, object_needed}
+use Rattle.protocol.specs.Steps.{WorkerContext, object_at}
+use Rattle.protocol.specs.Tables.{HasEnded, HasFaulted, Out, Phase, Ready, Execution, Waits, Worker, object_needed}
 use Rattle.protocol.specs.Nodes.{Node}
-use Rattle.protocol.specs.Whole.{Whole, here, node_at, worker_at}
+use Rattle.protocol.specs.Cluster.{ClusterState, here, node_at, worker_at}
 use Rattle.lease_discipline.specs.of_protocol_legal.Knows.{KnowsPhase, KnowsRun, piece_of}
 use Rattle.lease_discipline.specs.of_protocol_legal.Whole.{Between, setting_of}
 use Rattle.protocol_owed.specs.Courses.{Rests, WaitsFor, course}
@@ -34,7 +34,7 @@ use Rattle.protocol_owed.proofs.Replying.{IsAnswered, IsFetched, IsMissed, Uses,
 use Rattle.protocol_owed.specs.Told.{IsAsTold, attempt_by, pace_by, pace_in}
 use Rattle.lease_discipline.proofs.Events.{among_at}
 use Rattle.lease_discipline.proofs.Told.{lives_there, logs_tell, places}
-use Rattle.owed_replies.specs.Kept.{IsRightLetter}
+use Rattle.owed_replies.specs.Kept.{IsRightEnvelope}
 use Rattle.owed_replies.specs.Law.{happening}
 use Rattle.owed_replies.proofs.Advancing.{entry_born, owner_has}
 use Rattle.owed_replies.proofs.Delivered.{born_serial, delivered_out, owner_there}
@@ -70,7 +70,7 @@ stops_alike n t o p answers e = elim (same_base o p (piece n t o answers).births
 ]
 
 module _ (s : Setting) (r : Running) (k : RunReplies s r) (calm : IsCalm r.log) where
-  abbrev c : Whole
+  abbrev c : ClusterState
   c = r.whole
 
   abbrev b : Between s r.log r.whole
@@ -83,7 +83,7 @@ module _ (s : Setting) (r : Running) (k : RunReplies s r) (calm : IsCalm r.log) 
     pub lives : worker.is_live ≡ true
     pub node : Node
     pub home : node_at c worker.node ≡ Some node
-    pub run : Run
+    pub run : Execution
     pub at : worker.run ≡ Some run
     pub present : run.attempt ≡ a
     pub needs : object_needed run.phase ≡ Some y
@@ -103,7 +103,7 @@ module _ (s : Setting) (r : Running) (k : RunReplies s r) (calm : IsCalm r.log) 
       same_name : (p q : Id) → ◌≡◌ {A = Stop} (Needs (Named p)) (Needs (Named q)) → p ≡ q
       same_name p q e = cc
 
-      by_phase : (x : Worker) (run : Run) → worker_at c w ≡ Some x → x.is_live ≡ true → x.run ≡ Some run → run.attempt ≡ a → (p : Phase) → run.phase ≡ p → pace_in p ≡ Rests →
+      by_phase : (x : Worker) (run : Execution) → worker_at c w ≡ Some x → x.is_live ≡ true → x.run ≡ Some run → run.attempt ≡ a → (p : Phase) → run.phase ≡ p → pace_in p ≡ Rests →
           object_needed run.phase ≡ Some y
       by_phase x run at live is same (Waits z g) e rests =
           let knows : KnowsRun (setting_of s c) r.log w x run = (b.knows.workers w x at live).run run is in
@@ -123,7 +123,7 @@ module _ (s : Setting) (r : Running) (k : RunReplies s r) (calm : IsCalm r.log) 
       by_phase x run at live is same (HasEnded d) e rests = absurd (cc)
       by_phase x run at live is same (HasFaulted g) e rests = absurd (cc)
 
-      by_run : (x : Worker) → worker_at c w ≡ Some x → x.is_live ≡ true → (o : Option Run) → x.run ≡ o → attempt_by o ≡ Some a → pace_by o ≡ Rests → IsWaiting w a y
+      by_run : (x : Worker) → worker_at c w ≡ Some x → x.is_live ≡ true → (o : Option Execution) → x.run ≡ o → attempt_by o ≡ Some a → pace_by o ≡ Rests → IsWaiting w a y
       by_run x at live None is present rests = absurd (cc)
       by_run x at live (Some run) is present rests =
           let same : run.attempt ≡ a = same_attempt_of run.attempt a present in
@@ -142,7 +142,7 @@ module _ (s : Setting) (r : Running) (k : RunReplies s r) (calm : IsCalm r.log) 
 
   -- ---- an event that is taken
 
-  module _ (e : Event) (seat : ℕ) (handed : Handed) (step : Step) (answered : answer c e handed ≡ Takes step) where
+  module _ (e : Event) (seat : ℕ) (handed : CommitInput) (step : Step) (answered : answer c e handed ≡ Takes step) where
     abbrev hap : Happening
     hap = happening s r e seat step
 
@@ -155,46 +155,46 @@ module _ (s : Setting) (r : Running) (k : RunReplies s r) (calm : IsCalm r.log) 
     pub places_owed : AtIsUsed hap
     places_owed w a y number nodes content other (i, is, sent) waits =
         let q : IsWaiting w a y = waits_so w a y waits in
-        let h : Here = here c w q.worker q.node in
-        let l : Letter = letter (TheWorker y.owner) (TheWorker w) (At y number nodes content) in
-        let right : IsRightLetter r.log l = k.replies.letters l (among_at c.network i l sent) in
+        let h : WorkerContext = here c w q.worker q.node in
+        let l : Envelope = envelope (TheWorker y.owner) (TheWorker w) (At y number nodes content) in
+        let right : IsRightEnvelope r.log l = k.replies.envelopes l (among_at c.network i l sent) in
         let out = delivered_out c i handed step (TheWorker y.owner) w (At y number nodes content) q.worker q.node sent q.there q.lives q.home (as_delivery i is) in
         by_content q content right out.0 out.1
       where
         IsSo : List ℕ → Type 0
         IsSo ns = IsGot hap a y ⊎
-            ((n : ℕ) × (has ns n ≡ true) × Among (letter (TheWorker w) (TheNode n) (Fetch y number)) step.letters) ⊎
-            ((n : ℕ) × (node_of w r.log ≡ Some n) × (has ns n ≡ true) × Among (letter (TheWorker w) (TheWorker y.owner) (Missing y number n)) step.letters)
+            ((n : ℕ) × (has ns n ≡ true) × Among (envelope (TheWorker w) (TheNode n) (Fetch y number)) step.envelopes) ⊎
+            ((n : ℕ) × (node_of w r.log ≡ Some n) × (has ns n ≡ true) × Among (envelope (TheWorker w) (TheWorker y.owner) (Missing y number n)) step.envelopes)
 
         by_use : (q : IsWaiting w a y) (ns : List ℕ) → step.entries ≡ (release_step (reached (here c w q.worker q.node) (TheWorker y.owner) (At y number ns None))).there.out.entries →
-            step.letters ≡ (release_step (reached (here c w q.worker q.node) (TheWorker y.owner) (At y number ns None))).there.out.letters →
+            step.envelopes ≡ (release_step (reached (here c w q.worker q.node) (TheWorker y.owner) (At y number ns None))).there.out.envelopes →
             Uses (here c w q.worker q.node) q.run y number ns (release_step (reached (here c w q.worker q.node) (TheWorker y.owner) (At y number ns None))) → IsSo ns
-        by_use q ns entries letters (IsAnswered d got) = inl (d, subst (λ f. Among (Got f y d) step.entries) q.present (subst (λ es. Among (Got q.run.attempt y d) es) (sym entries) got))
-        by_use q ns entries letters (IsFetched n named fetched) = inr (inl (n, named, subst (λ ls. Among (letter (TheWorker w) (TheNode n) (Fetch y number)) ls) (sym letters) fetched))
-        by_use q ns entries letters (IsMissed named missed) =
+        by_use q ns entries envelopes (IsAnswered d got) = inl (d, subst (λ f. Among (Got f y d) step.entries) q.present (subst (λ es. Among (Got q.run.attempt y d) es) (sym entries) got))
+        by_use q ns entries envelopes (IsFetched n named fetched) = inr (inl (n, named, subst (λ ls. Among (envelope (TheWorker w) (TheNode n) (Fetch y number)) ls) (sym envelopes) fetched))
+        by_use q ns entries envelopes (IsMissed named missed) =
             inr (inr (
               q.worker.node,
               places s r.log c b w q.worker q.there,
               named,
-              subst (λ ls. Among (letter (TheWorker w) (TheWorker y.owner) (Missing y number q.worker.node)) ls) (sym letters) missed,
+              subst (λ ls. Among (envelope (TheWorker w) (TheWorker y.owner) (Missing y number q.worker.node)) ls) (sym envelopes) missed,
             ))
 
         by_nodes : (q : IsWaiting w a y) (ns : List ℕ) → is_empty ns ≡ false → step.entries ≡ (release_step (reached (here c w q.worker q.node) (TheWorker y.owner) (At y number ns None))).there.out.entries →
-            step.letters ≡ (release_step (reached (here c w q.worker q.node) (TheWorker y.owner) (At y number ns None))).there.out.letters → IsSo ns
-        by_nodes q [] some entries letters = absurd (cc)
-        by_nodes q (n ∷ ns) some entries letters =
-            by_use q (n ∷ ns) entries letters
+            step.envelopes ≡ (release_step (reached (here c w q.worker q.node) (TheWorker y.owner) (At y number ns None))).there.out.envelopes → IsSo ns
+        by_nodes q [] some entries envelopes = absurd (cc)
+        by_nodes q (n ∷ ns) some entries envelopes =
+            by_use q (n ∷ ns) entries envelopes
             (at_is_used (here c w q.worker q.node) y.owner y number n ns q.run (foreign_to y w other) q.at q.needs (no_dead_nodes s r.log c b calm w q.worker q.there))
 
         by_content : (q : IsWaiting w a y) (r' : Option Outcome) → (is_empty nodes && is_none r') ≡ false →
             step.entries ≡ (release_step (reached (here c w q.worker q.node) (TheWorker y.owner) (At y number nodes r'))).there.out.entries →
-            step.letters ≡ (release_step (reached (here c w q.worker q.node) (TheWorker y.owner) (At y number nodes r'))).there.out.letters → IsSo nodes
-        by_content q None some entries letters = by_nodes q nodes (not_both (is_empty nodes) some) entries letters
+            step.envelopes ≡ (release_step (reached (here c w q.worker q.node) (TheWorker y.owner) (At y number nodes r'))).there.out.envelopes → IsSo nodes
+        by_content q None some entries envelopes = by_nodes q nodes (not_both (is_empty nodes) some) entries envelopes
           where
             not_both : (t : Bool) → (t && true) ≡ false → t ≡ false
             not_both true f = f
             not_both false f = f
-        by_content q (Some d) some entries letters =
+        by_content q (Some d) some entries envelopes =
             let got = at_is_got (here c w q.worker q.node) y.owner y number nodes d q.run (foreign_to y w other) q.at q.needs in
             inl (d, subst (λ f. Among (Got f y d) step.entries) q.present (subst (λ es. Among (Got q.run.attempt y d) es) (sym entries) got))
 
@@ -203,12 +203,12 @@ module _ (s : Setting) (r : Running) (k : RunReplies s r) (calm : IsCalm r.log) 
 
     pub hold_owed : HoldIsAcknowledged hap
     hold_owed w d o (i, is, sent) =
-        let l : Letter = letter (TheWorker w) (TheWorker o.owner) (Hold d o) in
-        let right : IsRightLetter r.log l = k.replies.letters l (among_at c.network i l sent) in
+        let l : Envelope = envelope (TheWorker w) (TheWorker o.owner) (Hold d o) in
+        let right : IsRightEnvelope r.log l = k.replies.envelopes l (among_at c.network i l sent) in
         let x = owner_there s r.log c b calm o (entry_born r.log o right.1) in
         let n = k.step.leases.homes o.owner x.0 x.1 in
         let z = owner_has s r.log c b o (entry_born r.log o right.1) x.0 x.1 x.2 (born_serial (setting_of s c) r.log b.legal o right.1) in
-        let h : Here = here c o.owner x.0 n.0 in
+        let h : WorkerContext = here c o.owner x.0 n.0 in
         let out = delivered_out c i handed step (TheWorker w) o.owner (Hold d o) x.0 n.0 sent x.1 x.2 n.1 (as_delivery i is) in
         let at : object_at h o ≡ Some z.0 = ap (λ t. if t then item_at x.0.objects o.serial else None) (own_now o.owner o.owner refl) ∙ z.1 in
-        subst (λ ls. Among (letter (TheWorker o.owner) (TheWorker w) (HoldAck d o)) ls) (sym out.1) (hold_is_acknowledged h w d o z.0 at)
+        subst (λ ls. Among (envelope (TheWorker o.owner) (TheWorker w) (HoldAck d o)) ls) (sym out.1) (hold_is_acknowledged h w d o z.0 at)

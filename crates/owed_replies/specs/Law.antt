@@ -8,9 +8,9 @@ use Rattle.event_log.specs.Legal.{opening}
 use Rattle.event_log.specs.Rules.{Setting}
 use Rattle.event_log.specs.Words.{same_attempt}
 use Rattle.protocol.specs.Answers.{Step, Takes, answer, logged, whole_after}
-use Rattle.protocol.specs.Jobs.{Handed}
-use Rattle.protocol.specs.Tables.{Run, Worker}
-use Rattle.protocol.specs.Whole.{Whole, first_whole, worker_at}
+use Rattle.protocol.specs.Jobs.{CommitInput}
+use Rattle.protocol.specs.Tables.{Execution, Worker}
+use Rattle.protocol.specs.Cluster.{ClusterState, first_whole, worker_at}
 use Rattle.lease_discipline.specs.of_protocol_laws.Coming.{IsRight}
 use Rattle.protocol_owed.specs.Replies.{AcceptedIsTold, AcceptedIsUsed, AtIsUsed, FinishIsAcknowledged, Happening, HoldIsAcknowledged, RequestIsTold}
 use Rattle.protocol_owed.specs.Runs.{Handing, Running, after_events, answer_to, opening_run, seen}
@@ -27,16 +27,16 @@ OpeningKeepsReplies = (nodes slots : ℕ) → KeepsReplies opening (first_whole 
 -- every event of a run in step keeps it so, accepted or refused, where what is handed in with a commit is what the attempt's replay does
 abbrev pub EventsKeepReplies : Type 0
 EventsKeepReplies =
-    (s : Setting) → KeepsMainApart s.script → (log : List Entry) (c : Whole) (e : Event) (seat : ℕ) (handed : Handed) →
+    (s : Setting) → KeepsMainApart s.script → (log : List Entry) (c : ClusterState) (e : Event) (seat : ℕ) (handed : CommitInput) →
     IsInStep s log c → IsRight s c e handed → KeepsReplies log c → KeepsReplies (log ++ logged e seat (answer c e handed)) (whole_after c (answer c e handed))
 
 -- ---- ends
 
 -- the attempt is its worker's present one, and some of its Holds wait
-pub record AwaitsAcks (c : Whole) (a : Attempt) : Type 0 where
+pub record AwaitsAcks (c : ClusterState) (a : Attempt) : Type 0 where
   pub number : ℕ
   pub worker : Worker
-  pub run : Run
+  pub run : Execution
   pub there : worker_at c number ≡ Some worker
   pub at : worker.run ≡ Some run
   pub present : run.attempt ≡ a
@@ -59,7 +59,7 @@ happening s r e seat step =
       before = seen s r;
       event = e;
       entries = step.entries;
-      letters = step.letters;
+      envelopes = step.envelopes;
       after = seen s (running step.whole (r.log ++ In e seat ∷ step.entries));
     }
 

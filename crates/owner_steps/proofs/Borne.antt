@@ -4,32 +4,32 @@ use Rattle.meaning.specs.Values.{Birth, Id, results_of}
 use Rattle.event_log.specs.Entries.{Attempt}
 use Rattle.protocol.specs.Sets.{repeated}
 use Rattle.protocol.specs.Tables.{Beside, ByTask, Object, new_object, new_task}
-use Rattle.protocol.specs.Steps.{Here}
+use Rattle.protocol.specs.Steps.{WorkerContext}
 use Rattle.protocol.specs.Asking.{requests}
 use Rattle.protocol.specs.Holders.{holds_ids}
 use Rattle.protocol.specs.Commits.{bears_task, task_objects, with_objects}
 use Rattle.owner_steps.specs.Each.{each_own}
 use Rattle.owner_steps.proofs.Each.{each_of_task}
 
-abbrev with_table : Here → List Object → Here
+abbrev with_table : WorkerContext → List Object → WorkerContext
 with_table h xs = record h { worker = record h.worker { objects = xs } }
 
-two_borne : (h : Here) (xs ys : List Object) → with_objects (with_objects h xs) ys ≡ with_objects h (xs ++ ys)
+two_borne : (h : WorkerContext) (xs ys : List Object) → with_objects (with_objects h xs) ys ≡ with_objects h (xs ++ ys)
 two_borne h xs ys = ap (with_table h) (append_assoc h.worker.objects xs ys)
 
-pub one_beside : (h : Here) (x : Object) (n i : ℕ) → i < n →
+pub one_beside : (h : WorkerContext) (x : Object) (n i : ℕ) → i < n →
     with_objects (with_objects h (x ∷ [])) (repeated (n - (i + 1)) x) ≡ with_objects h (repeated (n - i) x)
 one_beside h x n i less =
     let e : n - i ≡ suc (n - (i + 1)) = omega (arith, less) in
     two_borne h (x ∷ []) (repeated (n - (i + 1)) x) ∙ sym (ap (λ m. with_objects h (repeated m x)) e)
 
-pub all_beside : (h : Here) (x : Object) (n i : ℕ) → n ≤ i → with_objects h (repeated (n - i) x) ≡ h
+pub all_beside : (h : WorkerContext) (x : Object) (n i : ℕ) → n ≤ i → with_objects h (repeated (n - i) x) ≡ h
 all_beside h x n i past =
     let e : n - i ≡ 0 = omega (arith, past) in
     ap (λ m. with_objects h (repeated m x)) e ∙ ap (with_table h) (append-nil h.worker.objects)
 
 -- the first object, the others, what each holds, and the ask
-pub borne : (h first all held : Here) (a : Attempt) (o : Id) (serial : ℕ) (spec : Birth) (others end : ℕ) (ids : List Id) →
+pub borne : (h first all held : WorkerContext) (a : Attempt) (o : Id) (serial : ℕ) (spec : Birth) (others end : ℕ) (ids : List Id) →
     results_of spec ≡ 1 + others → serial ≡ o.serial → end ≡ serial + 1 + others →
     first ≡ with_objects h (new_object (ByTask (new_task spec)) a ids ∷ []) →
     all ≡ with_objects first (repeated others (new_object (Beside serial) a ids)) →

@@ -5,7 +5,7 @@ use Rattle.meaning.specs.Values.{Id}
 use Rattle.protocol.specs.Messages.{EndedResult}
 use Rattle.protocol.specs.Sets.{object_id, rest_of}
 use Rattle.protocol.specs.Tables.{with_content}
-use Rattle.protocol.specs.Steps.{Here, changes}
+use Rattle.protocol.specs.Steps.{WorkerContext, changes}
 use Rattle.protocol.specs.Ends.{first_result, settles}
 
 pub none_told : (rs : List EndedResult) (i : ℕ) → length rs ≤ i → first_result (drop i rs) ≡ record { ids = []; kept = None }
@@ -25,11 +25,11 @@ rest_dropped [] (suc i) = refl
 rest_dropped (x ∷ xs) zero = refl
 rest_dropped (x ∷ xs) (suc i) = rest_dropped xs i
 
-pub first_settled : (h : Here) (o : Id) (number n k : ℕ) (rs : List EndedResult) →
+pub first_settled : (h : WorkerContext) (o : Id) (number n k : ℕ) (rs : List EndedResult) →
     settles h (object_id o.owner o.serial) number n k (drop 0 rs) ≡ settles h o number n k rs
 first_settled h o number n k rs = refl
 
-pub next_settled : (h : Here) (owner serial number n end i : ℕ) (rs : List EndedResult) → serial < end →
+pub next_settled : (h : WorkerContext) (owner serial number n end i : ℕ) (rs : List EndedResult) → serial < end →
     settles (changes h (object_id owner serial) (with_content number n (first_result (drop i rs)).ids (first_result (drop i rs)).kept))
     (object_id owner (serial + 1)) number n (end - (serial + 1)) (drop (i + 1) rs)
     ≡ settles h (object_id owner serial) number n (end - serial) (drop i rs)
@@ -41,6 +41,6 @@ next_settled h owner serial number n end i rs less =
     (ap (λ j. drop j rs) (sym s) ∙ sym (rest_dropped rs i))
     ∙ sym (ap (λ m. settles h (object_id owner serial) number n m (drop i rs)) e)
 
-pub all_settled : (h : Here) (o : Id) (number n end i : ℕ) (rs : List EndedResult) → end ≤ i → settles h o number n (end - i) rs ≡ h
+pub all_settled : (h : WorkerContext) (o : Id) (number n end i : ℕ) (rs : List EndedResult) → end ≤ i → settles h o number n (end - i) rs ≡ h
 all_settled h o number n end i rs past =
     let e : end - i ≡ 0 = omega (arith, past) in ap (λ m. settles h o number n m rs) e

@@ -15,14 +15,21 @@ use lease::next_in_circle;
 use lineage::may_try_again;
 use log_entries::Entry;
 use number_lists::{has_node, object_at_number, row_of};
-use protocol_data::{Here, Maker, Message, Object, Objects, OwnTask, Progress, Worker};
+use protocol_data::{
+    Message, Object, ObjectSource, Objects, OwnTask, Progress, Worker, WorkerContext,
+};
 use sequence::refused_growth;
 use std::alloc::{AllocError, Global};
 use worker_steps::{ask_at, end_of, is_own, knows_dead, log, request, say};
 
 /// The task has no retries left: those of its objects that have no copy are resolved by RetriesUsed, and whoever waits for one of them is answered.
 #[tactic(auto, using(crate::proofs::Each::used_up))]
-fn use_up(alloc: Global, here: &mut Here, object: ObjectId, number: u32) -> Result<(), AllocError>
+fn use_up(
+    alloc: Global,
+    here: &mut WorkerContext,
+    object: ObjectId,
+    number: u32,
+) -> Result<(), AllocError>
     ensures { (task : OwnTask) → task_of (item_at here.old.worker.objects object.serial) ≡ Some task → task.number ≡ number
         → OnOk result (here.new ≡ uses_up here.old object task) }
 {
@@ -35,14 +42,18 @@ fn use_up(alloc: Global, here: &mut Here, object: ObjectId, number: u32) -> Resu
 /// The present attempt of the pending task that stands with the object is broken: its worker or its node is dead. While there are retries left the
 /// next attempt is asked for, at the own node; else those of the task's objects that have no copy are resolved by RetriesUsed, and whoever waits for
 /// one of them is answered.
-pub fn break_attempt(alloc: Global, here: &mut Here, object: ObjectId) -> Result<(), AllocError>
+pub fn break_attempt(
+    alloc: Global,
+    here: &mut WorkerContext,
+    object: ObjectId,
+) -> Result<(), AllocError>
     ensures { (task : OwnTask) → task_of (item_at here.old.worker.objects object.serial) ≡ Some task
         → OnOk result (here.new ≡ breaks here.old object task) }
 {
     let Some(found) = object_at_number(&here.worker.objects, object.serial) else {
         return Ok(());
     };
-    let Maker::ByTask(task) = &found.maker else {
+    let ObjectSource::ByTask(task) = &found.source else {
         return Ok(());
     };
     let number = task.number;
@@ -57,7 +68,7 @@ fn set_begun(object: &mut Object, worker: WorkerId, node: NodeId) -> Result<(), 
     ensures { (task : OwnTask) → task_of (Some object.old) ≡ Some task
         → OnOk result (object.new ≡ with_task (with_begun task worker node) object.old) }
 {
-    if let Maker::ByTask(task) = &mut object.maker {
+    if let ObjectSource::ByTask(task) = &mut object.source {
         task.begun.push(worker)?;
         task.progress = Progress::RunsOn(worker, node);
         return Ok(());
@@ -86,7 +97,7 @@ fn set_begun_at(
 /// The worker is told to run the attempt.
 fn push(
     alloc: Global,
-    here: &mut Here,
+    here: &mut WorkerContext,
     object: ObjectId,
     worker: WorkerId,
     node: NodeId,
@@ -97,7 +108,7 @@ fn push(
     let Some(found) = object_at_number(&here.worker.objects, object.serial) else {
         return Ok(());
     };
-    let Maker::ByTask(task) = &found.maker else {
+    let ObjectSource::ByTask(task) = &found.source else {
         return Ok(());
     };
     let attempt = AttemptId {
@@ -113,7 +124,7 @@ fn push(
 /// The attempt that was begun on a dead worker is broken.
 fn push_in_vain(
     alloc: Global,
-    here: &mut Here,
+    here: &mut WorkerContext,
     object: ObjectId,
     worker: WorkerId,
     node: NodeId,
@@ -128,7 +139,7 @@ fn push_in_vain(
 /// The owner learns that the worker, given by the node, runs the attempt.
 fn begin(
     alloc: Global,
-    here: &mut Here,
+    here: &mut WorkerContext,
     object: ObjectId,
     worker: WorkerId,
     node: NodeId,
@@ -157,7 +168,7 @@ fn is_asked(t: u32, attempt: AttemptId, task: &OwnTask) -> bool
 }
 
 /// Whether ask `t` of the attempt, of an own object, is the one that stands.
-fn has_ask(here: &Here, attempt: AttemptId, t: u32) -> bool
+fn has_ask(here: &WorkerContext, attempt: AttemptId, t: u32) -> bool
     ensures { result ≡ has_ask t attempt (task_of (object_at here.now attempt.object)) }
 {
     if !is_own(here, attempt.object) {
@@ -166,8 +177,8 @@ fn has_ask(here: &Here, attempt: AttemptId, t: u32) -> bool
     let Some(found) = object_at_number(&here.worker.objects, attempt.object.serial) else {
         return false;
     };
-    match &found.maker {
-        Maker::ByTask(task) => is_asked(t, attempt, task),
+    match &found.source {
+        ObjectSource::ByTask(task) => is_asked(t, attempt, task),
         _ => false,
     }
 }
@@ -176,7 +187,7 @@ fn has_ask(here: &Here, attempt: AttemptId, t: u32) -> bool
 /// Push; if it is known dead the attempt is broken at once. Another Give is passed over.
 pub fn given_reached(
     alloc: Global,
-    here: &mut Here,
+    here: &mut WorkerContext,
     node: NodeId,
     attempt: AttemptId,
     t: u32,
@@ -220,7 +231,7 @@ fn next_ask(alloc: Global, t: u32) -> Result<u32, AllocError>
 
 /// Ask `t + 1` of the attempt of that number goes to the node, or to the first after it in the circle of numbers that isn't known dead.
 pub fn ask_next(
-    here: &mut Here,
+    here: &mut WorkerContext,
     object: ObjectId,
     number: u32,
     t: u32,
@@ -235,14 +246,19 @@ pub fn ask_next(
 }
 
 /// The present attempt is asked for on from the node.
-fn ask_on(here: &mut Here, object: ObjectId, t: u32, node: NodeId) -> Result<(), AllocError>
+fn ask_on(
+    here: &mut WorkerContext,
+    object: ObjectId,
+    t: u32,
+    node: NodeId,
+) -> Result<(), AllocError>
     ensures { (task : OwnTask) → task_of (item_at here.old.worker.objects object.serial) ≡ Some task
         → OnOk result (here.new ≡ asks_next here.old object task t node) }
 {
     let Some(found) = object_at_number(&here.worker.objects, object.serial) else {
         return Ok(());
     };
-    let Maker::ByTask(task) = &found.maker else {
+    let ObjectSource::ByTask(task) = &found.source else {
         return Ok(());
     };
     let number = task.number;
@@ -252,7 +268,7 @@ fn ask_on(here: &mut Here, object: ObjectId, t: u32, node: NodeId) -> Result<(),
 /// No slot was free for ask `t` of the attempt, and that node is next. Where that ask stands it is followed there; another Elsewhere is passed
 /// over.
 pub fn elsewhere_reached(
-    here: &mut Here,
+    here: &mut WorkerContext,
     attempt: AttemptId,
     t: u32,
     node: NodeId,

@@ -9,7 +9,7 @@ use crate::faulted::clear_askers;
 use crate::needs::{need_own_if_waiting, settled_number};
 use held::SharedContent;
 use ids::{NodeId, ObjectId, WorkerId};
-use protocol_data::{Here, Message, copy_of};
+use protocol_data::{Message, WorkerContext, copy_of};
 use sequence::Seq;
 use std::alloc::{AllocError, Global};
 use worker_steps::{object_at, say};
@@ -17,7 +17,7 @@ use worker_steps::{object_at, say};
 /// A worker is told where the content is.
 fn tell_place(
     alloc: Global,
-    here: &mut Here,
+    here: &mut WorkerContext,
     worker: WorkerId,
     object: ObjectId,
     number: u32,
@@ -35,7 +35,7 @@ fn tell_place(
 /// Each of the workers is told where the content is.
 fn tell_places(
     alloc: Global,
-    here: &mut Here,
+    here: &mut WorkerContext,
     workers: &Seq<WorkerId>,
     object: ObjectId,
     number: u32,
@@ -53,7 +53,11 @@ fn tell_places(
 
 /// Whoever waits for the own object, whose content is there now, is answered: each asker is told the places or the kept content, in order of
 /// asking, and none of them waits any more; the own attempt, if it waits for the object, looks for it.
-pub fn answer_settled(alloc: Global, here: &mut Here, object: ObjectId) -> Result<(), AllocError>
+pub fn answer_settled(
+    alloc: Global,
+    here: &mut WorkerContext,
+    object: ObjectId,
+) -> Result<(), AllocError>
     ensures { OnOk result (here.new ≡ answers_settled here.old object) }
 {
     let Some(found) = object_at(here, object) else {

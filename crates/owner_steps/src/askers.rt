@@ -11,7 +11,7 @@ use crate::recovery::recover;
 use ids::{NodeId, ObjectId, WorkerId};
 use lineage::{has_content, is_lost};
 use number_lists::{add_worker, row_of};
-use protocol_data::{Here, Message, Object, Objects, Party, copy_of};
+use protocol_data::{Endpoint, Message, Object, Objects, WorkerContext, copy_of};
 use std::alloc::{AllocError, Global};
 use values::{Fault, FaultKind};
 use worker_steps::{find_none, is_own, is_present, is_waiting_for, object_at, report_missing, say};
@@ -29,7 +29,7 @@ fn add_asker_at(objects: &mut Objects, serial: u64, worker: WorkerId) -> Result<
 }
 
 /// The worker waits for the own object.
-fn add_asker(here: &mut Here, object: ObjectId, worker: WorkerId) -> Result<(), AllocError>
+fn add_asker(here: &mut WorkerContext, object: ObjectId, worker: WorkerId) -> Result<(), AllocError>
     ensures { OnOk result (here.new ≡ changes here.old object (with_asker worker)) }
 {
     add_asker_at(&mut here.worker.objects, object.serial, worker)
@@ -37,7 +37,7 @@ fn add_asker(here: &mut Here, object: ObjectId, worker: WorkerId) -> Result<(), 
 
 /// Who asks for a released object is told of a fault where an object of the dead held it, and is passed over else.
 fn tell_released(
-    here: &mut Here,
+    here: &mut WorkerContext,
     worker: WorkerId,
     object: ObjectId,
     dead_holder: Option<ObjectId>,
@@ -59,7 +59,7 @@ fn tell_released(
 /// object of the dead held it.
 pub fn where_reached(
     alloc: Global,
-    here: &mut Here,
+    here: &mut WorkerContext,
     worker: WorkerId,
     object: ObjectId,
 ) -> Result<(), AllocError>
@@ -92,7 +92,7 @@ pub fn where_reached(
 }
 
 /// A place of that content of the own object is none any more.
-fn take_place(here: &mut Here, object: ObjectId, number: u32, node: NodeId)
+fn take_place(here: &mut WorkerContext, object: ObjectId, number: u32, node: NodeId)
     ensures { here.new ≡ takes_place here.old object number node }
 {
     let Some(found) = object_at(here, object) else {
@@ -106,7 +106,7 @@ fn take_place(here: &mut Here, object: ObjectId, number: u32, node: NodeId)
 
 /// The owner is told of it, by the waiting attempt or in its place.
 fn hand_missing_on(
-    here: &mut Here,
+    here: &mut WorkerContext,
     object: ObjectId,
     number: u32,
     node: NodeId,
@@ -122,15 +122,15 @@ fn hand_missing_on(
 /// Whoever told it is treated as one that asks.
 fn missing_from(
     alloc: Global,
-    here: &mut Here,
-    sender: &Party,
+    here: &mut WorkerContext,
+    sender: &Endpoint,
     object: ObjectId,
 ) -> Result<(), AllocError>
     ensures { OnOk result (here.new ≡ missing_from here.old sender.now object) }
 {
     match sender {
-        Party::TheWorker(worker) => where_reached(alloc, here, *worker, object),
-        Party::TheNode(_) => need_own_if_waiting(alloc, here, object),
+        Endpoint::TheWorker(worker) => where_reached(alloc, here, *worker, object),
+        Endpoint::TheNode(_) => need_own_if_waiting(alloc, here, object),
     }
 }
 
@@ -138,8 +138,8 @@ fn missing_from(
 /// that asks; where a node told it, the own waiting attempt looks again. Another worker hands it on to the owner.
 pub fn missing_reached(
     alloc: Global,
-    here: &mut Here,
-    sender: &Party,
+    here: &mut WorkerContext,
+    sender: &Endpoint,
     object: ObjectId,
     number: u32,
     node: NodeId,

@@ -11,11 +11,11 @@ ghost use Rattle.protocol.specs.Commits.{bears, bears_all, bears_put, bears_task
 
 use crate::birth_ids::ids_in_birth;
 use crate::results::hold_all;
-use held::{Origin, SharedContent};
+use held::{SharedBirth, SharedContent};
 use ids::{AttemptId, NodeId, ObjectId};
 use number_lists::row_of;
 use object_store::put_primary;
-use protocol_data::{Here, Maker, Message, Object, Objects, OwnTask, Progress};
+use protocol_data::{Message, Object, ObjectSource, Objects, OwnTask, Progress, WorkerContext};
 use sequence::Seq;
 use std::alloc::{AllocError, Global};
 use task_spec::Birth;
@@ -23,7 +23,7 @@ use values::RunValue;
 use worker_steps::{hold_ids, say_to_node};
 
 /// The id of the worker's next object.
-pub fn next_id(here: &Here) -> ObjectId
+pub fn next_id(here: &WorkerContext) -> ObjectId
     ensures id { result ≡ next_id_here here.now }
     ensures bound { result.serial ≤ 2 ^ 63 }
 {
@@ -36,7 +36,7 @@ pub fn next_id(here: &Here) -> ObjectId
 }
 
 /// One more own object.
-fn add_own(here: &mut Here, object: Object) -> Result<(), AllocError>
+fn add_own(here: &mut WorkerContext, object: Object) -> Result<(), AllocError>
     ensures { OnOk result (here.new ≡ with_objects here.old (object ∷ [])) }
 {
     here.worker.objects.push(object)?;
@@ -56,7 +56,7 @@ fn put_object(
     places.push(node)?;
     let ever = places.copy(alloc)?;
     Ok(Object {
-        maker: Maker::WasPut,
+        source: ObjectSource::WasPut,
         bearer,
         settled: Some(0),
         places,
@@ -75,15 +75,15 @@ fn put_object(
 /// An object of a task that wasn't asked for yet.
 fn task_object(
     alloc: Global,
-    maker: Maker,
+    source: ObjectSource,
     bearer: AttemptId,
     ids: &Seq<ObjectId>,
 ) -> Result<Object, AllocError>
-    ensures { IfOk result (λ x. x ≡ new_object maker bearer ids.now) }
+    ensures { IfOk result (λ x. x ≡ new_object source bearer ids.now) }
 {
     let ids = ids.copy(alloc)?;
     Ok(Object {
-        maker,
+        source,
         bearer,
         settled: None,
         places: Seq::new(alloc),
@@ -102,9 +102,9 @@ fn task_object(
 /// The first object of such a task.
 fn add_first(
     alloc: Global,
-    here: &mut Here,
+    here: &mut WorkerContext,
     bearer: AttemptId,
-    spec: &Origin,
+    spec: &SharedBirth,
     ids: &Seq<ObjectId>,
 ) -> Result<(), AllocError>
     ensures { OnOk result (here.new ≡ with_objects here.old (new_object (ByTask (new_task spec.now)) bearer ids.now ∷ [])) }
@@ -116,7 +116,7 @@ fn add_first(
         number: 0,
         progress: Progress::AtRest,
     };
-    let made = task_object(alloc, Maker::ByTask(task), bearer, ids)?;
+    let made = task_object(alloc, ObjectSource::ByTask(task), bearer, ids)?;
     add_own(here, made)
 }
 
@@ -124,7 +124,7 @@ fn add_first(
 #[tactic(auto, using(crate::proofs::Borne::one_beside, crate::proofs::Borne::all_beside))]
 fn add_others(
     alloc: Global,
-    here: &mut Here,
+    here: &mut WorkerContext,
     bearer: AttemptId,
     first: u64,
     others: u8,
@@ -134,7 +134,7 @@ fn add_others(
 {
     for turn in 0..others {
         let _ = turn;
-        let made = task_object(alloc, Maker::Beside(first), bearer, ids)?;
+        let made = task_object(alloc, ObjectSource::Beside(first), bearer, ids)?;
         add_own(here, made)?;
     }
     Ok(())
@@ -151,7 +151,7 @@ fn content_put(alloc: Global, value: &RunValue) -> Result<SharedContent, AllocEr
 /// A value is put.
 fn bear_put(
     alloc: Global,
-    here: &mut Here,
+    here: &mut WorkerContext,
     bearer: AttemptId,
     object: ObjectId,
     value: &RunValue,
@@ -176,15 +176,15 @@ fn set_task_at(objects: &mut Objects, serial: u64, task: OwnTask)
         return;
     };
     let object = objects.row_mut(place);
-    object.maker = Maker::ByTask(task);
+    object.source = ObjectSource::ByTask(task);
 }
 
 /// The first attempt of a new task is asked for.
 fn request_first(
     alloc: Global,
-    here: &mut Here,
+    here: &mut WorkerContext,
     object: ObjectId,
-    spec: &Origin,
+    spec: &SharedBirth,
 ) -> Result<(), AllocError>
     ensures { OnOk result (here.new ≡ requests here.old object (new_task spec.now)) }
 {
@@ -203,10 +203,10 @@ fn request_first(
 /// A task is born, with an object for each result, and asked for.
 fn bear_task(
     alloc: Global,
-    here: &mut Here,
+    here: &mut WorkerContext,
     bearer: AttemptId,
     object: ObjectId,
-    spec: &Origin,
+    spec: &SharedBirth,
     others: u8,
     ids: &Seq<ObjectId>,
 ) -> Result<(), AllocError>
@@ -220,7 +220,12 @@ fn bear_task(
 }
 
 /// One birth.
-fn bear(alloc: Global, here: &mut Here, bearer: AttemptId, spec: &Origin) -> Result<(), AllocError>
+fn bear(
+    alloc: Global,
+    here: &mut WorkerContext,
+    bearer: AttemptId,
+    spec: &SharedBirth,
+) -> Result<(), AllocError>
     ensures { OnOk result (here.new ≡ bears here.old bearer spec.now) }
 {
     let object = next_id(here);
@@ -234,9 +239,9 @@ fn bear(alloc: Global, here: &mut Here, bearer: AttemptId, spec: &Origin) -> Res
 /// All births of a commit.
 pub fn bear_all(
     alloc: Global,
-    here: &mut Here,
+    here: &mut WorkerContext,
     bearer: AttemptId,
-    births: &Seq<Origin>,
+    births: &Seq<SharedBirth>,
 ) -> Result<(), AllocError>
     ensures { OnOk result (here.new ≡ bears_all here.old bearer births.now) }
 {

@@ -4,16 +4,16 @@ ghost use Rattle.std.specs.Prelude.{◌≡◌, ◌+◌, ◌++◌, IfOk, OnOk, So
 ghost use Rattle.protocol.specs.Steps.{with_run};
 ghost use Rattle.protocol.specs.Tables.{Out};
 ghost use Rattle.protocol.specs.Commits.{asks_where, claim_step, commit_step, ends, keeps_content, keeps_contents, needs, rests_if_waiting, stops, with_outcomes};
-ghost use Rattle.protocol_data.specs.declared.tables.Run.{Run};
+ghost use Rattle.protocol_data.specs.declared.tables.Execution.{Execution};
 
 use crate::births::{bear_all, next_id};
 use crate::logged::log_outcomes;
 use crate::needs::need_own;
 use crate::results::id_behind;
-use held::{Births, Origin, Printed, Prints, SharedContent};
+use held::{Births, Printed, Prints, SharedBirth, SharedContent};
 use ids::ObjectId;
 use object_store::put_end;
-use protocol_data::{Here, Message, Outcomes, Phase, Stopped, copy_contents};
+use protocol_data::{Message, Outcomes, Phase, Stopped, WorkerContext, copy_contents};
 use sequence::Seq;
 use std::alloc::{AllocError, Global};
 use values::{Fault, FaultKind};
@@ -25,7 +25,7 @@ use worker_steps::{
 // ---- stops
 
 /// The place of the object is looked for.
-fn ask_where(alloc: Global, here: &mut Here, object: ObjectId) -> Result<(), AllocError>
+fn ask_where(alloc: Global, here: &mut WorkerContext, object: ObjectId) -> Result<(), AllocError>
     ensures { OnOk result (here.new ≡ asks_where here.old object) }
 {
     if is_own(here, object) {
@@ -39,7 +39,11 @@ fn ask_where(alloc: Global, here: &mut Here, object: ObjectId) -> Result<(), All
 }
 
 /// Unless it was answered at once, the attempt gives its slot back.
-fn rest_if_waiting(alloc: Global, here: &mut Here, object: ObjectId) -> Result<(), AllocError>
+fn rest_if_waiting(
+    alloc: Global,
+    here: &mut WorkerContext,
+    object: ObjectId,
+) -> Result<(), AllocError>
     ensures { OnOk result (here.new ≡ rests_if_waiting here.old object) }
 {
     if is_waiting_for(&here.worker, object) {
@@ -49,8 +53,8 @@ fn rest_if_waiting(alloc: Global, here: &mut Here, object: ObjectId) -> Result<(
 }
 
 /// The attempt needs an object: it waits, unless it is answered at once.
-fn need(alloc: Global, here: &mut Here, object: ObjectId) -> Result<(), AllocError>
-    ensures { (run : Run) → here.old.worker.run ≡ Some run → OnOk result (here.new ≡ needs here.old run object) }
+fn need(alloc: Global, here: &mut WorkerContext, object: ObjectId) -> Result<(), AllocError>
+    ensures { (run : Execution) → here.old.worker.run ≡ Some run → OnOk result (here.new ≡ needs here.old run object) }
 {
     set_phase(here, Phase::Waits(object, None));
     ask_where(alloc, here, object)?;
@@ -60,7 +64,7 @@ fn need(alloc: Global, here: &mut Here, object: ObjectId) -> Result<(), AllocErr
 /// The content of the object by the attempt of that number goes into the node's store, unless it is small, and the object holds the ids in it.
 fn keep_content(
     alloc: Global,
-    here: &mut Here,
+    here: &mut WorkerContext,
     object: ObjectId,
     number: u32,
     content: &SharedContent,
@@ -78,7 +82,7 @@ fn keep_content(
 #[tactic(auto, using(crate::proofs::Contents::first_kept))]
 fn keep_contents(
     alloc: Global,
-    here: &mut Here,
+    here: &mut WorkerContext,
     object: ObjectId,
     number: u32,
     contents: &[SharedContent],
@@ -93,8 +97,12 @@ fn keep_contents(
 }
 
 /// The attempt ends, with a content for each result.
-fn end(alloc: Global, here: &mut Here, contents: &Seq<SharedContent>) -> Result<(), AllocError>
-    ensures { (run : Run) → here.old.worker.run ≡ Some run → OnOk result (here.new ≡ ends here.old run contents.now) }
+fn end(
+    alloc: Global,
+    here: &mut WorkerContext,
+    contents: &Seq<SharedContent>,
+) -> Result<(), AllocError>
+    ensures { (run : Execution) → here.old.worker.run ≡ Some run → OnOk result (here.new ≡ ends here.old run contents.now) }
 {
     let Some(run) = &here.worker.run else {
         return Ok(());
@@ -114,7 +122,7 @@ fn end(alloc: Global, here: &mut Here, contents: &Seq<SharedContent>) -> Result<
 }
 
 /// The attempt stops there.
-fn stop(alloc: Global, here: &mut Here, stop: &Stopped) -> Result<(), AllocError>
+fn stop(alloc: Global, here: &mut WorkerContext, stop: &Stopped) -> Result<(), AllocError>
     ensures { OnOk result (here.new ≡ stops here.old stop.now) }
 {
     if here.worker.run.is_none() {
@@ -129,7 +137,7 @@ fn stop(alloc: Global, here: &mut Here, stop: &Stopped) -> Result<(), AllocError
 // ---- the commit
 
 /// Adds copies of the births.
-fn add_births(alloc: Global, births: &mut Births, more: &Seq<Origin>) -> Result<(), AllocError>
+fn add_births(alloc: Global, births: &mut Births, more: &Seq<SharedBirth>) -> Result<(), AllocError>
     ensures { OnOk result (births.new ≡ births.old ++ more.now) }
 {
     for birth in &more.items {
@@ -149,8 +157,12 @@ fn add_prints(alloc: Global, prints: &mut Prints, more: &Seq<Printed>) -> Result
 }
 
 /// What was done is added to what the attempt did.
-fn add_outcomes(alloc: Global, here: &mut Here, outcomes: &Outcomes) -> Result<(), AllocError>
-    ensures { (run : Run) → here.old.worker.run ≡ Some run → OnOk result (here.new ≡ with_run here.old (with_outcomes run outcomes.now)) }
+fn add_outcomes(
+    alloc: Global,
+    here: &mut WorkerContext,
+    outcomes: &Outcomes,
+) -> Result<(), AllocError>
+    ensures { (run : Execution) → here.old.worker.run ≡ Some run → OnOk result (here.new ≡ with_run here.old (with_outcomes run outcomes.now)) }
 {
     if let Some(run) = &mut here.worker.run {
         add_births(alloc, &mut run.births, &outcomes.births)?;
@@ -164,7 +176,11 @@ fn add_outcomes(alloc: Global, here: &mut Here, outcomes: &Outcomes) -> Result<(
 /// What was done on the attempt's job is committed. Its births, prints and end are logged; each birth enters the table, holds the ids in it, and
 /// is stored or asked for; then the attempt waits for what it needs, unless it is answered at once, or stores each content with which it ends,
 /// unless that is small.
-pub fn commit_step(alloc: Global, here: &mut Here, outcomes: &Outcomes) -> Result<(), AllocError>
+pub fn commit_step(
+    alloc: Global,
+    here: &mut WorkerContext,
+    outcomes: &Outcomes,
+) -> Result<(), AllocError>
     ensures { OnOk result (here.new ≡ commit_step here.old outcomes.now) }
 {
     let Some(run) = &here.worker.run else {
@@ -179,7 +195,7 @@ pub fn commit_step(alloc: Global, here: &mut Here, outcomes: &Outcomes) -> Resul
 }
 
 /// The worker's attempt is given out as that job; nothing but its phase changes.
-pub fn claim_step(here: &mut Here, job: u64)
+pub fn claim_step(here: &mut WorkerContext, job: u64)
     ensures { here.new ≡ claim_step here.old job }
 {
     if here.worker.run.is_some() {

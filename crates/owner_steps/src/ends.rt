@@ -14,7 +14,7 @@ use ids::{AttemptId, NodeId, ObjectId, WorkerId};
 use log_entries::Entry;
 use number_lists::{add_node, add_objects, object_at_number, row_of};
 use protocol_data::{
-    EndedResult, Here, Maker, Message, Object, Objects, OwnTask, Progress, copy_of,
+    EndedResult, Message, Object, ObjectSource, Objects, OwnTask, Progress, WorkerContext, copy_of,
 };
 use sequence::Seq;
 use std::alloc::{AllocError, Global};
@@ -33,14 +33,18 @@ fn is_present_attempt(attempt: AttemptId, task: &OwnTask) -> bool
 }
 
 /// The worker is told that its owner has heard how the attempt stopped.
-fn hear_of_end(here: &mut Here, worker: WorkerId, attempt: AttemptId) -> Result<(), AllocError>
+fn hear_of_end(
+    here: &mut WorkerContext,
+    worker: WorkerId,
+    attempt: AttemptId,
+) -> Result<(), AllocError>
     ensures { OnOk result (here.new ≡ hears_of_end here.old worker attempt) }
 {
     say(here, worker, Message::FinishedAck(attempt))
 }
 
 /// No attempt of the object's task is under way.
-pub fn rest(here: &mut Here, object: ObjectId, number: u32)
+pub fn rest(here: &mut WorkerContext, object: ObjectId, number: u32)
     ensures { (task : OwnTask) → task_of (item_at here.old.worker.objects object.serial) ≡ Some task → task.number ≡ number
         → here.new ≡ with_task_of here.old object (rests task) }
 {
@@ -135,7 +139,7 @@ fn set_told_content_at(
 #[tactic(auto, using(crate::proofs::Told::first_settled, crate::proofs::Told::next_settled, crate::proofs::Told::all_settled))]
 fn settle_all(
     alloc: Global,
-    here: &mut Here,
+    here: &mut WorkerContext,
     object: ObjectId,
     end: u64,
     number: u32,
@@ -164,7 +168,7 @@ fn settle_all(
 #[tactic(auto, using(crate::proofs::Each::accepted))]
 fn accept(
     alloc: Global,
-    here: &mut Here,
+    here: &mut WorkerContext,
     attempt: AttemptId,
     node: NodeId,
     results: &Seq<EndedResult>,
@@ -190,7 +194,7 @@ fn accept(
 #[tactic(auto, using(crate::proofs::Each::finished))]
 fn take_end(
     alloc: Global,
-    here: &mut Here,
+    here: &mut WorkerContext,
     worker: WorkerId,
     attempt: AttemptId,
     node: NodeId,
@@ -211,7 +215,7 @@ fn take_end(
 /// that its end was heard.
 pub fn finished_reached(
     alloc: Global,
-    here: &mut Here,
+    here: &mut WorkerContext,
     worker: WorkerId,
     attempt: AttemptId,
     node: NodeId,
@@ -225,7 +229,7 @@ pub fn finished_reached(
     let Some(found) = object_at_number(&here.worker.objects, attempt.object.serial) else {
         return hear_of_end(here, worker, attempt);
     };
-    let Maker::ByTask(task) = &found.maker else {
+    let ObjectSource::ByTask(task) = &found.source else {
         return hear_of_end(here, worker, attempt);
     };
     if !is_present_attempt(attempt, task) {
@@ -238,7 +242,7 @@ pub fn finished_reached(
 #[tactic(auto, using(crate::proofs::Each::failed))]
 fn take_fault(
     alloc: Global,
-    here: &mut Here,
+    here: &mut WorkerContext,
     worker: WorkerId,
     attempt: AttemptId,
     why: Fault,
@@ -258,7 +262,7 @@ fn take_fault(
 /// fault are resolved to this one, and whoever waits for one of them is answered. Of any attempt the worker is told that its end was heard.
 pub fn failed_reached(
     alloc: Global,
-    here: &mut Here,
+    here: &mut WorkerContext,
     worker: WorkerId,
     attempt: AttemptId,
     why: Fault,
@@ -271,7 +275,7 @@ pub fn failed_reached(
     let Some(found) = object_at_number(&here.worker.objects, attempt.object.serial) else {
         return hear_of_end(here, worker, attempt);
     };
-    let Maker::ByTask(task) = &found.maker else {
+    let ObjectSource::ByTask(task) = &found.source else {
         return hear_of_end(here, worker, attempt);
     };
     if !is_present_attempt(attempt, task) {

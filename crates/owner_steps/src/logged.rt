@@ -8,10 +8,10 @@ ghost use Rattle.protocol.specs.Steps.{logs_all};
 ghost use Rattle.owner_steps.specs.Logged.{born, ended};
 
 use crate::results::id_behind;
-use held::{Origin, Printed};
+use held::{Printed, SharedBirth};
 use ids::{AttemptId, ObjectId};
 use log_entries::Entry;
-use protocol_data::{Here, Outcomes, Stopped, copy_contents};
+use protocol_data::{Outcomes, Stopped, WorkerContext, copy_contents};
 use sequence::Seq;
 use std::alloc::{AllocError, Global};
 use worker_steps::{log, results_of};
@@ -20,10 +20,10 @@ use worker_steps::{log, results_of};
 #[tactic(auto, using(crate::proofs::LogLaws::next_born, crate::proofs::LogLaws::none_logged))]
 fn log_births(
     alloc: Global,
-    here: &mut Here,
+    here: &mut WorkerContext,
     attempt: AttemptId,
     first: ObjectId,
-    births: &[Origin],
+    births: &[SharedBirth],
 ) -> Result<(), AllocError>
     ensures { OnOk result (here.new ≡ logs_all here.old (born attempt first births.now)) }
 {
@@ -45,7 +45,7 @@ fn log_births(
 
 /// Adds an entry for each print, in order.
 #[tactic(auto, using(crate::proofs::LogLaws::one_logged, crate::proofs::LogLaws::none_logged))]
-fn log_prints(alloc: Global, here: &mut Here, prints: &[Printed]) -> Result<(), AllocError>
+fn log_prints(alloc: Global, here: &mut WorkerContext, prints: &[Printed]) -> Result<(), AllocError>
     ensures { OnOk result (here.new ≡ logs_all here.old (map logged.Printed prints.now)) }
 {
     for value in prints {
@@ -59,7 +59,7 @@ fn log_prints(alloc: Global, here: &mut Here, prints: &[Printed]) -> Result<(), 
 #[tactic(auto, using(crate::proofs::LogLaws::none_logged))]
 fn log_end(
     alloc: Global,
-    here: &mut Here,
+    here: &mut WorkerContext,
     attempt: AttemptId,
     stop: &Stopped,
 ) -> Result<(), AllocError>
@@ -78,7 +78,7 @@ fn log_end(
 #[tactic(auto, using(crate::proofs::LogLaws::all_logged))]
 pub fn log_outcomes(
     alloc: Global,
-    here: &mut Here,
+    here: &mut WorkerContext,
     attempt: AttemptId,
     first: ObjectId,
     outcomes: &Outcomes,

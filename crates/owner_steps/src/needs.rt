@@ -16,7 +16,7 @@ use ids::{NodeId, ObjectId};
 use lineage::{has_content, is_lost};
 use number_lists::{has_node, remove_node, row_of};
 use object_store::get as get_copy;
-use protocol_data::{Here, Object, Objects, Worker, copy_of};
+use protocol_data::{Object, Objects, Worker, WorkerContext, copy_of};
 use sequence::Seq;
 use std::alloc::{AllocError, Global};
 use values::{Fault, FaultKind};
@@ -41,7 +41,7 @@ fn remove_place_at(objects: &mut Objects, serial: u64, node: NodeId)
 }
 
 /// The place is taken out of the own object's.
-pub fn remove_place(here: &mut Here, object: ObjectId, node: NodeId)
+pub fn remove_place(here: &mut WorkerContext, object: ObjectId, node: NodeId)
     ensures { here.new ≡ changes here.old object (without_place node) }
 {
     remove_place_at(&mut here.worker.objects, object.serial, node);
@@ -59,7 +59,7 @@ fn clear_places_at(alloc: Global, objects: &mut Objects, serial: u64)
 }
 
 /// The own object has no place.
-fn clear_places(alloc: Global, here: &mut Here, object: ObjectId)
+fn clear_places(alloc: Global, here: &mut WorkerContext, object: ObjectId)
     ensures { here.new ≡ changes here.old object without_places }
 {
     clear_places_at(alloc, &mut here.worker.objects, object.serial);
@@ -68,7 +68,7 @@ fn clear_places(alloc: Global, here: &mut Here, object: ObjectId)
 /// The first place that isn't known dead; where there is none, the content is lost, and made again unless an attempt is under way.
 fn look_elsewhere(
     alloc: Global,
-    here: &mut Here,
+    here: &mut WorkerContext,
     object: ObjectId,
     number: u32,
     places: &Seq<NodeId>,
@@ -85,7 +85,7 @@ fn look_elsewhere(
 /// The own node turns out to have no copy.
 fn look_past(
     alloc: Global,
-    here: &mut Here,
+    here: &mut WorkerContext,
     object: ObjectId,
     number: u32,
     places: &Seq<NodeId>,
@@ -102,7 +102,7 @@ fn look_past(
 /// The attempt looks at its own node, of which a copy is known.
 fn look_here(
     alloc: Global,
-    here: &mut Here,
+    here: &mut WorkerContext,
     object: ObjectId,
     number: u32,
     places: &Seq<NodeId>,
@@ -119,7 +119,7 @@ fn look_here(
 /// The attempt looks for a copy of the content of an own object.
 fn look_at_places(
     alloc: Global,
-    here: &mut Here,
+    here: &mut WorkerContext,
     object: ObjectId,
     number: u32,
     places: &Seq<NodeId>,
@@ -135,7 +135,7 @@ fn look_at_places(
 /// The content that the owner keeps answers, else a copy is looked for.
 fn look_for(
     alloc: Global,
-    here: &mut Here,
+    here: &mut WorkerContext,
     object: ObjectId,
     number: u32,
     places: &Seq<NodeId>,
@@ -152,7 +152,7 @@ fn look_for(
 /// The attempt needs a released object: where an object of the dead held it, that is its fault, and else nothing happens.
 fn need_released(
     alloc: Global,
-    here: &mut Here,
+    here: &mut WorkerContext,
     dead_holder: Option<ObjectId>,
 ) -> Result<(), AllocError>
     ensures { OnOk result (here.new ≡ needs_released here.old dead_holder) }
@@ -167,7 +167,7 @@ fn need_released(
 /// The worker's attempt needs an own object. A resolved one answers with its fault; what the owner keeps and a copy on the own node answer at
 /// once; else it is fetched from the first place that isn't known dead. Where no place is left the object is made again. One that was released
 /// answers with a fault where an object of the dead held it. For a pending one the attempt waits.
-pub fn need_own(alloc: Global, here: &mut Here, object: ObjectId) -> Result<(), AllocError>
+pub fn need_own(alloc: Global, here: &mut WorkerContext, object: ObjectId) -> Result<(), AllocError>
     ensures { OnOk result (here.new ≡ needs_own here.old object) }
 {
     set_fetching(here, None);
@@ -196,7 +196,7 @@ pub fn need_own(alloc: Global, here: &mut Here, object: ObjectId) -> Result<(), 
 /// The same, if it waits for the object.
 pub fn need_own_if_waiting(
     alloc: Global,
-    here: &mut Here,
+    here: &mut WorkerContext,
     object: ObjectId,
 ) -> Result<(), AllocError>
     ensures { OnOk result (here.new ≡ needs_own_if_waiting here.old object) }

@@ -11,7 +11,7 @@ use ids::ObjectId;
 use lineage::{Stop, first_by, is_lost_here, may_try_again, plan, task_by};
 use number_lists::object_at_number;
 use protocol::laws::plans_are_least_closed_sets;
-use protocol_data::Here;
+use protocol_data::WorkerContext;
 use sequence::Seq;
 use std::alloc::{AllocError, Global};
 use values::Fault;
@@ -19,7 +19,7 @@ use worker_steps::{is_pending_task, request, resolve};
 
 /// The next attempt of the task that makes the object of that serial is asked for, unless one is under way already.
 #[tactic(auto, using(crate::proofs::Remaking::has_retries, crate::proofs::Remaking::stands_first))]
-fn remake(here: &mut Here, serial: u64) -> Result<(), AllocError>
+fn remake(here: &mut WorkerContext, serial: u64) -> Result<(), AllocError>
     requires { MayBeMade here.old serial }
     ensures { OnOk result (here.new ≡ remakes_one here.old serial (own_object here.old serial)) }
 {
@@ -27,7 +27,7 @@ fn remake(here: &mut Here, serial: u64) -> Result<(), AllocError>
     let Some(found) = object_at_number(objects, serial) else {
         return Ok(());
     };
-    let Some(task) = task_by(objects, &found.maker) else {
+    let Some(task) = task_by(objects, &found.source) else {
         return Ok(());
     };
     if is_pending_task(task) {
@@ -37,12 +37,12 @@ fn remake(here: &mut Here, serial: u64) -> Result<(), AllocError>
     let _ = may_try_again(task);
     let number = task.number + 1;
     let owner = here.me;
-    let serial = first_by(serial, &found.maker);
+    let serial = first_by(serial, &found.source);
     request(here, ObjectId { owner, serial }, number)
 }
 
 /// These are asked for again, each once, and of the objects of one task one attempt.
-fn remake_all(here: &mut Here, serials: &Seq<u64>) -> Result<(), AllocError>
+fn remake_all(here: &mut WorkerContext, serials: &Seq<u64>) -> Result<(), AllocError>
     requires { AllMayBeMade here.old serials.now }
     ensures { OnOk result (here.new ≡ remakes here.old serials.now) }
 {
@@ -53,7 +53,12 @@ fn remake_all(here: &mut Here, serials: &Seq<u64>) -> Result<(), AllocError>
 }
 
 /// The object that stops the plan is resolved, and the one asked for to the same fault.
-fn give_up(alloc: Global, here: &mut Here, object: ObjectId, why: Fault) -> Result<(), AllocError>
+fn give_up(
+    alloc: Global,
+    here: &mut WorkerContext,
+    object: ObjectId,
+    why: Fault,
+) -> Result<(), AllocError>
     ensures { OnOk result (here.new ≡ gives_up here.old object why) }
 {
     if why.object.is(object) {
@@ -70,7 +75,7 @@ fn give_up(alloc: Global, here: &mut Here, object: ObjectId, why: Fault) -> Resu
 #[tactic(auto, using(crate::proofs::Plans::stopped))]
 fn give_up_by(
     alloc: Global,
-    here: &mut Here,
+    here: &mut WorkerContext,
     object: ObjectId,
     stop: Stop,
 ) -> Result<(), AllocError>
@@ -85,7 +90,7 @@ fn give_up_by(
 /// The lost own object is made again, with the lost objects that it is made from: in birth order the next attempt of each is asked for. If one of
 /// them can't be made again the first such one is resolved, the object asked for to the same fault, and whoever waits for them is answered.
 #[tactic(auto, using(crate::proofs::Plans::remade))]
-pub fn recover(alloc: Global, here: &mut Here, object: ObjectId) -> Result<(), AllocError>
+pub fn recover(alloc: Global, here: &mut WorkerContext, object: ObjectId) -> Result<(), AllocError>
     ensures { OnOk result (here.new ≡ recovers here.old object) }
 {
     plans_are_least_closed_sets();
@@ -96,7 +101,11 @@ pub fn recover(alloc: Global, here: &mut Here, object: ObjectId) -> Result<(), A
 }
 
 /// So where the own object is lost.
-pub fn recover_if_lost(alloc: Global, here: &mut Here, object: ObjectId) -> Result<(), AllocError>
+pub fn recover_if_lost(
+    alloc: Global,
+    here: &mut WorkerContext,
+    object: ObjectId,
+) -> Result<(), AllocError>
     ensures { OnOk result (here.new ≡ recovers_if_lost here.old object) }
 {
     if is_lost_here(here, object) {

@@ -13,14 +13,14 @@ use crate::answers::answer_settled;
 use crate::faulted::answer_faulted;
 use ids::ObjectId;
 use lineage::is_wanted;
-use protocol_data::Here;
+use protocol_data::WorkerContext;
 use sequence::{Seq, refused_growth};
 use std::alloc::{AllocError, Global};
 use values::{Fault, FaultKind};
 use worker_steps::{hold_ids, object_at, resolve};
 
 /// The id of the worker's object of that serial.
-pub fn own_id(here: &Here, serial: u64) -> ObjectId
+pub fn own_id(here: &WorkerContext, serial: u64) -> ObjectId
     ensures { result ≡ own_id here.now serial }
 {
     let owner = here.me;
@@ -39,7 +39,7 @@ pub fn id_behind(alloc: Global, object: ObjectId, count: u64) -> Result<ObjectId
 }
 
 /// The own object is resolved by RetriesUsed of itself, if it has no copy and no fault.
-fn resolve_used(here: &mut Here, serial: u64) -> Result<(), AllocError>
+fn resolve_used(here: &mut WorkerContext, serial: u64) -> Result<(), AllocError>
     ensures { OnOk result (here.new ≡ resolves_used here.old (own_id here.old serial)) }
 {
     let object = own_id(here, serial);
@@ -55,7 +55,7 @@ fn resolve_used(here: &mut Here, serial: u64) -> Result<(), AllocError>
 
 /// So is each from the one serial to before the other.
 #[tactic(auto, using(worker_steps::proofs::EachLaws::each_step, worker_steps::proofs::EachLaws::each_done))]
-pub fn resolve_all_used(here: &mut Here, from: u64, end: u64) -> Result<(), AllocError>
+pub fn resolve_all_used(here: &mut WorkerContext, from: u64, end: u64) -> Result<(), AllocError>
     ensures { OnOk result (here.new ≡ each_own resolves_used here.old from end) }
 {
     for serial in from..end {
@@ -65,7 +65,7 @@ pub fn resolve_all_used(here: &mut Here, from: u64, end: u64) -> Result<(), Allo
 }
 
 /// The own object is resolved to the fault, if it has none.
-fn resolve_open(here: &mut Here, serial: u64, why: Fault) -> Result<(), AllocError>
+fn resolve_open(here: &mut WorkerContext, serial: u64, why: Fault) -> Result<(), AllocError>
     ensures { OnOk result (here.new ≡ resolves_open why here.old (own_id here.old serial)) }
 {
     let object = own_id(here, serial);
@@ -80,7 +80,12 @@ fn resolve_open(here: &mut Here, serial: u64, why: Fault) -> Result<(), AllocErr
 
 /// So is each from the one serial to before the other.
 #[tactic(auto, using(worker_steps::proofs::EachLaws::each_step, worker_steps::proofs::EachLaws::each_done))]
-pub fn resolve_all_open(here: &mut Here, from: u64, end: u64, why: Fault) -> Result<(), AllocError>
+pub fn resolve_all_open(
+    here: &mut WorkerContext,
+    from: u64,
+    end: u64,
+    why: Fault,
+) -> Result<(), AllocError>
     ensures { OnOk result (here.new ≡ each_own (resolves_open why) here.old from end) }
 {
     for serial in from..end {
@@ -90,7 +95,11 @@ pub fn resolve_all_open(here: &mut Here, from: u64, end: u64, why: Fault) -> Res
 }
 
 /// Whoever waits for the own object, which has a content now, is answered.
-fn answer_settled_own(alloc: Global, here: &mut Here, serial: u64) -> Result<(), AllocError>
+fn answer_settled_own(
+    alloc: Global,
+    here: &mut WorkerContext,
+    serial: u64,
+) -> Result<(), AllocError>
     ensures { OnOk result (here.new ≡ answers_settled here.old (own_id here.old serial)) }
 {
     let object = own_id(here, serial);
@@ -101,7 +110,7 @@ fn answer_settled_own(alloc: Global, here: &mut Here, serial: u64) -> Result<(),
 #[tactic(auto, using(worker_steps::proofs::EachLaws::each_step, worker_steps::proofs::EachLaws::each_done))]
 pub fn answer_all_settled(
     alloc: Global,
-    here: &mut Here,
+    here: &mut WorkerContext,
     from: u64,
     end: u64,
 ) -> Result<(), AllocError>
@@ -114,7 +123,11 @@ pub fn answer_all_settled(
 }
 
 /// Whoever waits for the own object, if that is resolved, is answered.
-fn answer_faulted_own(alloc: Global, here: &mut Here, serial: u64) -> Result<(), AllocError>
+fn answer_faulted_own(
+    alloc: Global,
+    here: &mut WorkerContext,
+    serial: u64,
+) -> Result<(), AllocError>
     ensures { OnOk result (here.new ≡ answers_faulted here.old (own_id here.old serial)) }
 {
     let object = own_id(here, serial);
@@ -125,7 +138,7 @@ fn answer_faulted_own(alloc: Global, here: &mut Here, serial: u64) -> Result<(),
 #[tactic(auto, using(worker_steps::proofs::EachLaws::each_step, worker_steps::proofs::EachLaws::each_done))]
 pub fn answer_all_faulted(
     alloc: Global,
-    here: &mut Here,
+    here: &mut WorkerContext,
     from: u64,
     end: u64,
 ) -> Result<(), AllocError>
@@ -139,7 +152,12 @@ pub fn answer_all_faulted(
 
 /// Each of these holds those ids.
 #[tactic(auto, using(worker_steps::proofs::EachLaws::each_step, worker_steps::proofs::EachLaws::each_done))]
-pub fn hold_all(here: &mut Here, from: u64, end: u64, ids: &Seq<ObjectId>) -> Result<(), AllocError>
+pub fn hold_all(
+    here: &mut WorkerContext,
+    from: u64,
+    end: u64,
+    ids: &Seq<ObjectId>,
+) -> Result<(), AllocError>
     ensures { OnOk result (here.new ≡ each_own (λ g e. holds_ids g e ids.now) here.old from end) }
 {
     for serial in from..end {

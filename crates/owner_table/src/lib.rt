@@ -6,4 +6,4 @@ mod owner_table;
 
 pub use crate::owner_table::OwnerTable;
 pub use lineage::plan;
-pub use protocol_data::{Here, Object, Objects};
+pub use protocol_data::{Object, Objects, WorkerContext};

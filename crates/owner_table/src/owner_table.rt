@@ -8,12 +8,12 @@ ghost use Rattle.protocol.specs.Notices.{notice_node_step, notice_step};
 ghost use Rattle.protocol.specs.Places.{adds_places, missing_reached, where_reached};
 ghost use Rattle.protocol.specs.Releases.{release_step};
 
-use held::Origin;
+use held::SharedBirth;
 use ids::{AttemptId, NodeId, ObjectId, WorkerId};
 use owner_steps::{
     bear_all, failed_reached, finished_reached, given_reached, missing_reached, where_reached,
 };
-use protocol_data::{EndedResult, Here, Party};
+use protocol_data::{EndedResult, Endpoint, WorkerContext};
 use sequence::Seq;
 use std::alloc::{AllocError, Global};
 use values::Fault;
@@ -29,7 +29,7 @@ pub trait OwnerTable {
         &mut self,
         alloc: Global,
         bearer: AttemptId,
-        births: &Seq<Origin>,
+        births: &Seq<SharedBirth>,
     ) -> Result<(), AllocError>;
 
     /// The node has given the worker to ask `t` of the attempt: where that ask stands the attempt begins.
@@ -73,7 +73,7 @@ pub trait OwnerTable {
     fn missing(
         &mut self,
         alloc: Global,
-        sender: &Party,
+        sender: &Endpoint,
         object: ObjectId,
         number: u32,
         node: NodeId,
@@ -97,12 +97,12 @@ pub trait OwnerTable {
     fn release(&mut self, alloc: Global) -> Result<(), AllocError>;
 }
 
-impl OwnerTable for Here {
+impl OwnerTable for WorkerContext {
     fn born(
         &mut self,
         alloc: Global,
         bearer: AttemptId,
-        births: &Seq<Origin>,
+        births: &Seq<SharedBirth>,
     ) -> Result<(), AllocError>
         ensures { OnOk result (self.new ≡ bears_all self.old bearer births.now) }
     {
@@ -161,7 +161,7 @@ impl OwnerTable for Here {
     fn missing(
         &mut self,
         alloc: Global,
-        sender: &Party,
+        sender: &Endpoint,
         object: ObjectId,
         number: u32,
         node: NodeId,

@@ -2,10 +2,10 @@
 use Rattle.std.specs.Prelude.{ℕ, List, codes}
 use Rattle.serde_json.specs.Data.{Data, number, unsigned, string, object, member, no_members}
 use Rattle.event_log.specs.Entries.{Entry}
-use Rattle.history.specs.Report.{report_text}
+use Rattle.report_text.specs.Report.{report_text}
 use Rattle.log_words.specs.declared.contents.Contents.{Contents}
 use Rattle.message_text.specs.Text.{log_with_messages}
-use Rattle.protocol_data.specs.declared.whole.Whole.{Whole}
+use Rattle.protocol_data.specs.declared.cluster_state.ClusterState.{ClusterState}
 use Rattle.state_text.specs.Text.{event_count, state_text}
 
 -- the nodes and slots with which a cluster begins
@@ -21,6 +21,6 @@ run_data script nodes slots log report state =
 
 -- every entry of the log in words, with the messages that each event sent; the report; and what is alive behind the last event. `how` says whether
 -- long lists are cut, and `sent` is how many messages had been sent behind each event
-abbrev pub page_data : Contents → List ℕ → ℕ → ℕ → List Entry → List ℕ → Whole → Data
+abbrev pub page_data : Contents → List ℕ → ℕ → ℕ → List Entry → List ℕ → ClusterState → Data
 page_data how script nodes slots log sent whole =
     run_data script nodes slots (log_with_messages how log whole.network sent) (report_text log) (state_text log whole (event_count log))

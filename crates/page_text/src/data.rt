@@ -5,11 +5,11 @@ ghost use Rattle.serde_json.specs.View.{view};
 ghost use Rattle.serde_json.specs.Written.{compact_text};
 ghost use Rattle.page_text.specs.Data.{page_data, run_data};
 
-use history::report_text;
 use log_entries::Entry;
 use log_words::Contents;
 use message_text::log_with_messages;
-use protocol_data::Whole;
+use protocol_data::ClusterState;
+use report_text::report_text;
 use serde_json::{Value, json};
 use state_text::{event_count, state_text};
 use std::alloc::{AllocError, Global};
@@ -58,7 +58,7 @@ pub fn data_text(
     slots: u8,
     log: &[Entry],
     sent: &[usize],
-    whole: &Whole,
+    whole: &ClusterState,
 ) -> Result<String, AllocError>
     ensures { IfOk result (λ text. string_bytes text ≡ compact_text (page_data contents script.now nodes slots log.now sent.now whole.now)) }
 {

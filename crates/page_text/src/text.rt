@@ -8,7 +8,7 @@ use crate::escaped::write_escaped;
 use crate::frame::{HEAD, TAIL};
 use log_entries::Entry;
 use log_words::Contents;
-use protocol_data::Whole;
+use protocol_data::ClusterState;
 use std::alloc::{AllocError, Global};
 
 /// A run as a file of HTML that stands alone (docs/pages.md): the fixed head, the run as one line of JSON, and the fixed tail. The JSON has the
@@ -23,7 +23,7 @@ pub fn page_text(
     slots: u8,
     log: &[Entry],
     sent: &[usize],
-    whole: &Whole,
+    whole: &ClusterState,
 ) -> Result<Vec<u8>, AllocError>
     ensures { IfOk result (λ page. page.items ≡ page_text contents script.now nodes slots log.now sent.now whole.now) }
 {

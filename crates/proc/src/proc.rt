@@ -8,7 +8,7 @@ ghost use Rattle.protocol.specs.Ticks.{tick_step};
 
 use ids::{NodeId, WorkerId};
 use owner_steps::{claim_step, commit_step};
-use protocol_data::{Here, Message, Outcomes, Party};
+use protocol_data::{Endpoint, Message, Outcomes, WorkerContext};
 use std::alloc::{AllocError, Global};
 use worker_acts::{notice_node_step, notice_step, reached, tick_step};
 
@@ -19,7 +19,7 @@ pub trait Proc {
     fn deliver(
         &mut self,
         alloc: Global,
-        sender: &Party,
+        sender: &Endpoint,
         message: &Message,
     ) -> Result<(), AllocError>;
 
@@ -39,11 +39,11 @@ pub trait Proc {
     fn commit(&mut self, alloc: Global, outcomes: &Outcomes) -> Result<(), AllocError>;
 }
 
-impl Proc for Here {
+impl Proc for WorkerContext {
     fn deliver(
         &mut self,
         alloc: Global,
-        sender: &Party,
+        sender: &Endpoint,
         message: &Message,
     ) -> Result<(), AllocError>
         ensures { OnOk result (self.new ≡ reached self.old sender.now message.now) }

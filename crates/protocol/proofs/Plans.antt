@@ -9,7 +9,7 @@ use Rattle.protocol_data.proofs.of_meaning.BirthLaws.{at_test}
 use Rattle.protocol_data.specs.of_event_log.Breaks.{Among}
 use Rattle.protocol.specs.Numbered.{item_at}
 use Rattle.protocol.specs.Sets.{has, with_number}
-use Rattle.protocol.specs.Steps.{Here, is_own}
+use Rattle.protocol.specs.Steps.{WorkerContext, is_own}
 use Rattle.protocol.specs.Recovery.{counted_from, is_lost_at, is_lost_here, made_from, members, members_below, with_lost}
 use Rattle.protocol.specs.Laws.{AreOlder, IsClosed, IsLostArgument}
 
@@ -77,7 +77,7 @@ below_counted c (suc n) j a b =
 
 -- ---- the members
 
-module _ (h : Here) where
+module _ (h : WorkerContext) where
   lost_is_numbered : (o : Id) → is_lost_here h o ≡ true → 1 ≤ o.serial
   lost_is_numbered o e = at_own (is_own h o) o.serial e
     where

@@ -6,14 +6,14 @@ use Rattle.protocol_data.specs.of_event_log.Entries.{RetriesUsed, main_attempt}
 use Rattle.protocol_data.specs.of_event_log.Entries.{Pinned, NoCopy, NoJob}
 use Rattle.protocol_data.specs.of_event_log.Words.{attempt}
 use Rattle.protocol.specs.Sets.{fault, object_id}
-use Rattle.protocol.specs.Messages.{Ask, Elsewhere, Give, Letter, Push, TheNode, TheWorker, Unhold, Wait, WasReleased, letter}
+use Rattle.protocol.specs.Messages.{Ask, Elsewhere, Give, Envelope, Push, TheNode, TheWorker, Unhold, Wait, WasReleased, envelope}
 use Rattle.protocol.specs.Jobs.{AtGet, Nothing, OfAnother}
 use Rattle.protocol.specs.Stores.{Store, copy_in, empty_store, evict_refusal, evicted, looked_up, lose_refusal, with_primary, with_secondary, without_copies}
-use Rattle.protocol.specs.Nodes.{There, new_node, no_out}
+use Rattle.protocol.specs.Nodes.{NodeContext, new_node, no_out}
 use Rattle.protocol.specs.Slots.{ask_key, asked, asks_slot, frees, is_back}
 use Rattle.protocol.specs.Tables.{ByTask, Object, is_held, new_object, new_task, new_worker, put_object, with_content, with_holder, with_place}
 use Rattle.protocol.specs.Tables.{without_holder, without_place, without_places}
-use Rattle.protocol.specs.Steps.{Here}
+use Rattle.protocol.specs.Steps.{WorkerContext}
 use Rattle.protocol.specs.Recovery.{counted_from, first_stop, members}
 use Rattle.protocol.specs.Releases.{releases_all}
 use Rattle.protocol.specs.Answers.{Refuses, answer}
@@ -89,31 +89,31 @@ abbrev pub lost_put : Object
 lost_put = without_places first_put
 
 -- node 1, with one slot, of so many nodes
-abbrev pub node_of : ℕ → There
+abbrev pub node_of : ℕ → NodeContext
 node_of nodes = record { number = 1; nodes = nodes; workers = 1; opened = 0; node = new_node 1; out = no_out }
 
 -- worker 1 owns these
-abbrev pub owner_of_these : List Object → Here
+abbrev pub owner_of_these : List Object → WorkerContext
 owner_of_these xs = record { me = 1; worker = record (new_worker 1) { objects = xs }; there = node_of 1 }
 
 -- o1.1 is lost, o1.2 is whole and was made from it, o1.3 is lost and was made from o1.2
-abbrev pub whole_between : Here
+abbrev pub whole_between : WorkerContext
 whole_between = owner_of_these (made [] 3 [] ∷ made (1 ∷ []) 3 (1 ∷ []) ∷ made (2 ∷ []) 3 [] ∷ [])
 
 -- the same with all three lost
-abbrev pub all_lost : Here
+abbrev pub all_lost : WorkerContext
 all_lost = owner_of_these (made [] 3 [] ∷ made (1 ∷ []) 3 [] ∷ made (2 ∷ []) 3 [] ∷ [])
 
 -- o1.1 was put, o1.2 was made from it, and both are lost
-abbrev pub put_is_lost : Here
+abbrev pub put_is_lost : WorkerContext
 put_is_lost = owner_of_these (lost_put ∷ made (1 ∷ []) 3 [] ∷ [])
 
 -- the same with no retry left for o1.2
-abbrev pub none_can_be_made : Here
+abbrev pub none_can_be_made : WorkerContext
 none_can_be_made = owner_of_these (lost_put ∷ made (1 ∷ []) 0 [] ∷ [])
 
 -- no retry is left for o1.1, from which o1.2 was made
-abbrev pub no_retry_left : Here
+abbrev pub no_retry_left : WorkerContext
 no_retry_left = owner_of_these (made [] 0 [] ∷ made (1 ∷ []) 3 [] ∷ [])
 
 -- what is made again, and what stops it: the first in birth order
@@ -141,12 +141,12 @@ abbrev pub kept_at_last : Object
 kept_at_last = with_content 2 3 [] (Some one) (without_places made_twice)
 
 -- what is sent where worker 1's first object is that, and is released
-abbrev pub told_at_release : Object → List Letter
-told_at_release x = (releases_all (owner_of_these (x ∷ [])) 1 1).there.out.letters
+abbrev pub told_at_release : Object → List Envelope
+told_at_release x = (releases_all (owner_of_these (x ∷ [])) 1 1).there.out.envelopes
 
 -- node n hears that its copies of o1.1 go
-abbrev pub copies_go : ℕ → Letter
-copies_go n = letter (TheWorker 1) (TheNode n) (Unhold (object_id 1 1) (object_id 1 1) WasReleased)
+abbrev pub copies_go : ℕ → Envelope
+copies_go n = envelope (TheWorker 1) (TheNode n) (Unhold (object_id 1 1) (object_id 1 1) WasReleased)
 
 -- each node at which a copy was ever known is told once, in the order in which they came
 pub record ReleasesTell : Type 0 where
@@ -159,11 +159,11 @@ pub record ReleasesTell : Type 0 where
 -- ---- asks and slots
 
 -- asks for the first attempts of o1.1 and o1.2 come to node 1 of two nodes; of the second, the first ask
-abbrev pub two_asks : There
+abbrev pub two_asks : NodeContext
 two_asks = asked (asked (node_of 2) (ask_key (attempt (object_id 1 1) 0) 0)) (ask_key (attempt (object_id 1 2) 0) 0)
 
 -- then the ask of o1.2 that every node was asked before, twice
-abbrev pub queued_twice : There
+abbrev pub queued_twice : NodeContext
 queued_twice = asked (asked two_asks (ask_key (attempt (object_id 1 2) 0) 1)) (ask_key (attempt (object_id 1 2) 0) 1)
 
 -- one slot: the first ask gets a new worker, the second is sent on, the last waits, and is told so again. A slot that is given back goes to
@@ -171,11 +171,11 @@ queued_twice = asked (asked two_asks (ask_key (attempt (object_id 1 2) 0) 1)) (a
 pub record AsksAre : Type 0 where
   pub opened : two_asks.out.entries ≡ Opened 2 1 ∷ []
   pub answers :
-      queued_twice.out.letters
-      ≡ letter (TheNode 1) (TheWorker 1) (Give (attempt (object_id 1 1) 0) 0 2)
-      ∷ letter (TheNode 1) (TheWorker 1) (Elsewhere (attempt (object_id 1 2) 0) 0 2)
-      ∷ letter (TheNode 1) (TheWorker 1) (Wait (attempt (object_id 1 2) 0) 1)
-      ∷ letter (TheNode 1) (TheWorker 1) (Wait (attempt (object_id 1 2) 0) 1)
+      queued_twice.out.envelopes
+      ≡ envelope (TheNode 1) (TheWorker 1) (Give (attempt (object_id 1 1) 0) 0 2)
+      ∷ envelope (TheNode 1) (TheWorker 1) (Elsewhere (attempt (object_id 1 2) 0) 0 2)
+      ∷ envelope (TheNode 1) (TheWorker 1) (Wait (attempt (object_id 1 2) 0) 1)
+      ∷ envelope (TheNode 1) (TheWorker 1) (Wait (attempt (object_id 1 2) 0) 1)
       ∷ []
   pub granted : (frees queued_twice 2).node.scheduler.holders ≡ 3 ∷ []
   pub answered_first : (frees (asks_slot queued_twice 1) 2).node.scheduler.holders ≡ 1 ∷ []
@@ -225,10 +225,10 @@ death_run =
           ∷ Faulted main_attempt (object_id 1 1) (fault RetriesUsed (object_id 1 1))
           ∷ Released (object_id 1 1)
           ∷ [];
-      letters =
-          letter (TheWorker 1) (TheNode 1) (Ask (attempt (object_id 1 1) 0) 0)
-          ∷ letter (TheNode 1) (TheWorker 1) (Give (attempt (object_id 1 1) 0) 0 2)
-          ∷ letter (TheWorker 1) (TheWorker 2) (Push (attempt (object_id 1 1) 0) one_once)
+      envelopes =
+          envelope (TheWorker 1) (TheNode 1) (Ask (attempt (object_id 1 1) 0) 0)
+          ∷ envelope (TheNode 1) (TheWorker 1) (Give (attempt (object_id 1 1) 0) 0 2)
+          ∷ envelope (TheWorker 1) (TheWorker 2) (Push (attempt (object_id 1 1) 0) one_once)
           ∷ [];
       given =
           record {

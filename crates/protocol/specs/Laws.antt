@@ -6,7 +6,7 @@ use Rattle.protocol_data.specs.of_event_log.Entries.{Fault}
 use Rattle.protocol_data.specs.of_event_log.Breaks.{Among}
 use Rattle.protocol.specs.Sets.{has, has_id}
 use Rattle.protocol.specs.Tables.{Object, is_held}
-use Rattle.protocol.specs.Steps.{Here}
+use Rattle.protocol.specs.Steps.{WorkerContext}
 use Rattle.protocol.specs.Recovery.{first_stop, is_lost_here, made_from, members, stop_at}
 
 -- ---- holders
@@ -24,16 +24,16 @@ pub record HeldMeans : Type 0 where
 -- ---- plans
 
 -- the own object i was made from o, which is the worker's own and lost
-pub record IsLostArgument (h : Here) (i : ℕ) (o : Id) : Type 0 where
+pub record IsLostArgument (h : WorkerContext) (i : ℕ) (o : Id) : Type 0 where
   pub argument : Among o (made_from h i)
   pub lost : is_lost_here h o ≡ true
 
 -- with each object of these serials, its lost arguments are among them
-abbrev pub IsClosed : Here → (ℕ → Bool) → Type 0
+abbrev pub IsClosed : WorkerContext → (ℕ → Bool) → Type 0
 IsClosed h these = (i : ℕ) (o : Id) → these i ≡ true → IsLostArgument h i o → these o.serial ≡ true
 
 -- what an object is made from is older
-abbrev pub AreOlder : Here → Type 0
+abbrev pub AreOlder : WorkerContext → Type 0
 AreOlder h = (i : ℕ) (o : Id) → IsLostArgument h i o → o.serial < i
 
 -- these serials rise, from c on
@@ -42,11 +42,11 @@ Rises c [] = Unit {0}
 Rises c (k ∷ ks) = (c ≤ k) × Rises (k + 1) ks
 
 -- each of these can be made again
-abbrev pub CanBeMade : Here → List ℕ → Type 0
+abbrev pub CanBeMade : WorkerContext → List ℕ → Type 0
 CanBeMade h ks = AllByRecursion (λ k. stop_at h k ≡ None) ks
 
 -- f is why the first of these stops that can't be made again
-pub record IsFirstStop (h : Here) (ks : List ℕ) (f : Fault) : Type 0 where
+pub record IsFirstStop (h : WorkerContext) (ks : List ℕ) (f : Fault) : Type 0 where
   pub before : List ℕ
   pub serial : ℕ
   pub behind : List ℕ
@@ -56,9 +56,9 @@ pub record IsFirstStop (h : Here) (ks : List ℕ) (f : Fault) : Type 0 where
 
 -- the objects to make again for k are the least closed set that has k, in birth order; a stop is that of the first that can't be made again
 pub record PlanMeans : Type 0 where
-  pub has_it : (h : Here) (k : ℕ) → 1 ≤ k → has (members h k) k ≡ true
-  pub closed : (h : Here) (k : ℕ) → AreOlder h → IsClosed h (has (members h k))
-  pub least : (h : Here) (k : ℕ) (these : ℕ → Bool) → these k ≡ true → IsClosed h these → (i : ℕ) → has (members h k) i ≡ true → these i ≡ true
-  pub in_birth_order : (h : Here) (k : ℕ) → Rises 1 (members h k)
-  pub stopped : (h : Here) (ks : List ℕ) (f : Fault) → first_stop h ks ≡ Some f → IsFirstStop h ks f
-  pub unstopped : (h : Here) (ks : List ℕ) → first_stop h ks ≡ None → CanBeMade h ks
+  pub has_it : (h : WorkerContext) (k : ℕ) → 1 ≤ k → has (members h k) k ≡ true
+  pub closed : (h : WorkerContext) (k : ℕ) → AreOlder h → IsClosed h (has (members h k))
+  pub least : (h : WorkerContext) (k : ℕ) (these : ℕ → Bool) → these k ≡ true → IsClosed h these → (i : ℕ) → has (members h k) i ≡ true → these i ≡ true
+  pub in_birth_order : (h : WorkerContext) (k : ℕ) → Rises 1 (members h k)
+  pub stopped : (h : WorkerContext) (ks : List ℕ) (f : Fault) → first_stop h ks ≡ Some f → IsFirstStop h ks f
+  pub unstopped : (h : WorkerContext) (ks : List ℕ) → first_stop h ks ≡ None → CanBeMade h ks

@@ -4,15 +4,15 @@ use Rattle.std.specs.Prelude.{List, None, Option, Some, [], map, suc, take, zero
 use Rattle.std.specs.List.{find}
 use Rattle.protocol_data.specs.of_event_log.Entries.{Commit, Entry, Event}
 use Rattle.protocol_data.specs.of_event_log.Legal.{opening}
-use Rattle.protocol.specs.Messages.{Letter}
-use Rattle.protocol.specs.Jobs.{Handed, Job, Nothing, OfJob, Outcomes}
-use Rattle.protocol.specs.Whole.{Whole, first_whole}
+use Rattle.protocol.specs.Messages.{Envelope}
+use Rattle.protocol.specs.Jobs.{CommitInput, Job, Nothing, OfJob, Outcomes}
+use Rattle.protocol.specs.Cluster.{ClusterState, first_whole}
 use Rattle.protocol.specs.Answers.{Answer, Refuses, Takes, answer, logged, whole_after}
 use Rattle.protocol.specs.Settling.{next}
 
 -- a whole, what was logged on the way to it, and the jobs that were given out
 pub record Played : Type 0 where
-  pub whole : Whole
+  pub whole : ClusterState
   pub log : List Entry
   pub given : List Job
 
@@ -35,7 +35,7 @@ abbrev pub answered : Played → Event → Answer → Played
 answered c e a = record { whole = whole_after c.whole a; log = c.log ++ logged e 0 a; given = c.given ++ given_in a }
 
 -- the run after an event, with what is handed in
-abbrev pub happened : Played → Event → Handed → Played
+abbrev pub happened : Played → Event → CommitInput → Played
 happened c e handed = answered c e (answer c.whole e handed)
 
 -- ---- what is handed in
@@ -50,12 +50,12 @@ abbrev pub doing : ℕ → Outcomes → Doing
 doing j d = record { job = j; outcomes = d }
 
 -- what was done on the job, if it is known
-abbrev pub handed_by : Option Doing → Handed
+abbrev pub handed_by : Option Doing → CommitInput
 handed_by None = Nothing
 handed_by (Some x) = OfJob x.outcomes
 
 -- with a commit comes what its job came to
-abbrev pub handed_for : Event → List Doing → Handed
+abbrev pub handed_for : Event → List Doing → CommitInput
 handed_for (Commit j) ds = handed_by (find (λ d. d.job == j) ds)
 handed_for _ ds = Nothing
 
@@ -91,16 +91,16 @@ plays ds c (l ∷ ls) = plays ds (plays_line ds c l) ls
 -- the log, the messages, and the jobs
 pub record Seen : Type 0 where
   pub log : List Entry
-  pub letters : List Letter
+  pub envelopes : List Envelope
   pub given : List Job
 
 -- what can be seen of a run
 abbrev pub seen : Played → Seen
-seen c = record { log = c.log; letters = c.whole.network; given = c.given }
+seen c = record { log = c.log; envelopes = c.whole.network; given = c.given }
 
 -- so many entries, messages and jobs of it
 abbrev pub first_part : ℕ → ℕ → ℕ → Seen → Seen
-first_part entries letters given s = record { log = take entries s.log; letters = take letters s.letters; given = take given s.given }
+first_part entries envelopes given s = record { log = take entries s.log; envelopes = take envelopes s.envelopes; given = take given s.given }
 
 -- the same with one more entry
 abbrev pub with_entry : Seen → Entry → Seen

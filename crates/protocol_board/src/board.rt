@@ -6,17 +6,17 @@ ghost use Rattle.protocol_core.specs.Own.{GivesOwn, IsOwn};
 ghost use Rattle.protocol_core.specs.Limits.{Limits};
 ghost use Rattle.protocol_core.specs.Owed.{Pays};
 ghost use Rattle.protocol_core.specs.Steps.{Answers, AnswersAsShown, reply_of};
-ghost use Rattle.history.specs.Main.{status_of};
-ghost use Rattle.history.specs.Report.{report_text};
+ghost use Rattle.report_text.specs.Main.{status_of};
+ghost use Rattle.report_text.specs.Report.{report_text};
 ghost use Rattle.protocol_core.specs.Meant.{IsSoundLog};
 ghost use Rattle.protocol_board.specs.Reports.{json_text};
 
-use history::{report_text, status_of};
 use ids::WorkerId;
 use log_entries::{Entry, Event};
 use protocol_core::{Core, Reply};
-use protocol_data::{Letter, Whole};
+use protocol_data::{ClusterState, Envelope};
 use report_json::report_json;
+use report_text::{report_text, status_of};
 use segment::{Done, ScriptName};
 use sequence::Seq;
 use std::alloc::{AllocError, Global};
@@ -106,14 +106,14 @@ impl<S: ScriptName> Board<S> {
     }
 
     /// Every message that was sent so far, in the order of their numbers, which begin with 1.
-    pub fn messages(&self) -> &Seq<Letter>
+    pub fn messages(&self) -> &Seq<Envelope>
         ensures { result.now ≡ self.now.whole.network }
     {
         self.core.messages()
     }
 
     /// The run without its log: see `Core::whole`.
-    pub fn whole(&self) -> &Whole
+    pub fn whole(&self) -> &ClusterState
         ensures { result.now ≡ self.now.whole }
     {
         self.core.whole()

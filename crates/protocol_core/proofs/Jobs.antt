@@ -20,12 +20,12 @@ use Rattle.event_log.specs.Words.{answers_of}
 use Rattle.protocol_core.specs.Work.{stopped_of, work_of}
 use Rattle.protocol.specs.Answers.{Refuses, answer, decided, given_out, job_of, limited, takes}
 use Rattle.protocol.specs.Events.{happens}
-use Rattle.protocol.specs.Jobs.{Given, Handed, Job, Nothing, OfAnother, OfJob, Outcomes}
+use Rattle.protocol.specs.Jobs.{JobRecord, CommitInput, Job, Nothing, OfAnother, OfJob, Outcomes}
 use Rattle.protocol.specs.Jobs as jobs
 use Rattle.protocol.specs.Numbered.{item_at}
 use Rattle.protocol.specs.Refusals.{is_within_limits, refusal}
-use Rattle.protocol.specs.Tables.{Run, Worker}
-use Rattle.protocol.specs.Whole.{Moved, Whole, worker_at}
+use Rattle.protocol.specs.Tables.{Execution, Worker}
+use Rattle.protocol.specs.Cluster.{Transition, ClusterState, worker_at}
 use Rattle.count_laws.specs.of_protocol_legal.Knows.{IsTask}
 use Rattle.protocol_laws.specs.Coming.{IsRight}
 use Rattle.protocol_laws.specs.Given.{ClaimsGiveGoodJobs, ClaimsGiveJobsOfTheLog, GivesGood, GivesOfLog, IsGood, IsOfLog, RunsAreGood, RunsHaveTheLogsAnswers}
@@ -68,19 +68,19 @@ in_pace script c kept goes_on law w x run at live is =
     record { births = good.births; prints = good.prints }
 
 -- an event that is no claim gives out no job
-gives_none : (script : Script) (m : Moved) (b : Bool) → GivesGood script (if b then takes m None else Refuses Limit)
+gives_none : (script : Script) (m : Transition) (b : Bool) → GivesGood script (if b then takes m None else Refuses Limit)
 gives_none script m true = tt
 gives_none script m false = tt
 
-no_job : (script : Script) (c : Whole) (e : Event) (handed : Handed) → given_out c e ≡ None → (o : Option Refusal) → GivesGood script (decided c e handed o)
+no_job : (script : Script) (c : ClusterState) (e : Event) (handed : CommitInput) → given_out c e ≡ None → (o : Option Refusal) → GivesGood script (decided c e handed o)
 no_job script c e handed none (Some code) = tt
 no_job script c e handed none None =
-    let m : Moved = happens c e handed in
+    let m : Transition = happens c e handed in
     subst (λ g. GivesGood script (limited m g)) (sym none) (gives_none script m (is_within_limits m.whole))
 
 -- each job that is given out may be run
-pub gives_good : (script : Script) → IsWellTyped script → ClaimsGiveGoodJobs → (nodes : ℕ) (log : List Entry) (c : Whole) → IsSound (beside script nodes []) log c →
-    (e : Event) (handed : Handed) → GivesGood script (answer c e handed)
+pub gives_good : (script : Script) → IsWellTyped script → ClaimsGiveGoodJobs → (nodes : ℕ) (log : List Entry) (c : ClusterState) → IsSound (beside script nodes []) log c →
+    (e : Event) (handed : CommitInput) → GivesGood script (answer c e handed)
 gives_good script typed law nodes log c sound (Claim w) handed = law (beside script nodes []) typed.checks (main_kind script typed) log c sound w handed
 gives_good script typed law nodes log c sound (Commit j) handed = no_job script c (Commit j) handed refl (refusal c (Commit j) handed)
 gives_good script typed law nodes log c sound (Deliver k) handed = no_job script c (Deliver k) handed refl (refusal c (Deliver k) handed)
@@ -95,19 +95,19 @@ gives_good script typed law nodes log c sound Join handed = no_job script c Join
 
 -- ---- the answers of jobs that are given out
 
-gives_no_own : (log : List Entry) (m : Moved) (b : Bool) → GivesOfLog log (if b then takes m None else Refuses Limit)
+gives_no_own : (log : List Entry) (m : Transition) (b : Bool) → GivesOfLog log (if b then takes m None else Refuses Limit)
 gives_no_own log m true = tt
 gives_no_own log m false = tt
 
-no_own : (log : List Entry) (c : Whole) (e : Event) (handed : Handed) → given_out c e ≡ None → (o : Option Refusal) → GivesOfLog log (decided c e handed o)
+no_own : (log : List Entry) (c : ClusterState) (e : Event) (handed : CommitInput) → given_out c e ≡ None → (o : Option Refusal) → GivesOfLog log (decided c e handed o)
 no_own log c e handed none (Some code) = tt
 no_own log c e handed none None =
-    let m : Moved = happens c e handed in
+    let m : Transition = happens c e handed in
     subst (λ g. GivesOfLog log (limited m g)) (sym none) (gives_no_own log m (is_within_limits m.whole))
 
 -- the log has those of each job that is given out
-pub gives_own : (script : Script) → ClaimsGiveJobsOfTheLog → (nodes : ℕ) (log : List Entry) (c : Whole) → IsSound (beside script nodes []) log c →
-    (e : Event) (handed : Handed) → GivesOfLog log (answer c e handed)
+pub gives_own : (script : Script) → ClaimsGiveJobsOfTheLog → (nodes : ℕ) (log : List Entry) (c : ClusterState) → IsSound (beside script nodes []) log c →
+    (e : Event) (handed : CommitInput) → GivesOfLog log (answer c e handed)
 gives_own script law nodes log c sound (Claim w) handed = law (beside script nodes []) log c sound w handed
 gives_own script law nodes log c sound (Commit j) handed = no_own log c (Commit j) handed refl (refusal c (Commit j) handed)
 gives_own script law nodes log c sound (Deliver k) handed = no_own log c (Deliver k) handed refl (refusal c (Deliver k) handed)
@@ -153,27 +153,27 @@ true_on script d h =
     h ∙ ap (λ stop. record { births = d.job.births ++ map birth_of d.births; prints = d.job.prints ++ map value_of d.prints; stop = stop }) (sym (same_stop d.stop))
 
 -- one attempt is out as that job
-one_out : (c : Whole) (j : ℕ) (run : Run) → IsOutAs c j run → (g : Given) (x : Worker) (other : Run) → item_at c.jobs j ≡ Some g → worker_at c g.worker ≡ Some x → x.run ≡ Some other → run ≡ other
+one_out : (c : ClusterState) (j : ℕ) (run : Execution) → IsOutAs c j run → (g : JobRecord) (x : Worker) (other : Execution) → item_at c.jobs j ≡ Some g → worker_at c g.worker ≡ Some x → x.run ≡ Some other → run ≡ other
 one_out c j run out g x other given worker runs =
     let same_given : out.given ≡ g = some_of out.given g (sym out.was_given ∙ given) in
-    let same_worker : out.worker ≡ x = some_of out.worker x (sym out.of_worker ∙ (ap (λ (h : Given). worker_at c h.worker) same_given ∙ worker)) in
+    let same_worker : out.worker ≡ x = some_of out.worker x (sym out.of_worker ∙ (ap (λ (h : JobRecord). worker_at c h.worker) same_given ∙ worker)) in
     some_of run other (sym out.runs ∙ (ap (λ (w : Worker). w.run) same_worker ∙ runs))
   where
     some_of : {X : Type 0} (a b : X) → Some a ≡ Some b → a ≡ b
     some_of a b e = cc
 
-right_job : (script : Script) (nodes : ℕ) (c : Whole) (j : ℕ) (d : Done) → IsTrueOf script d → IsOut c j d.job → IsRight (beside script nodes []) c (Commit j) (OfJob (work_of d.births d.prints d.stop))
+right_job : (script : Script) (nodes : ℕ) (c : ClusterState) (j : ℕ) (d : Done) → IsTrueOf script d → IsOut c j d.job → IsRight (beside script nodes []) c (Commit j) (OfJob (work_of d.births d.prints d.stop))
 right_job script nodes c j d is_true out g x run given worker runs is_out =
     let same : d.job ≡ job_of j run = out.2 ∙ ap (λ r. job_of j r) (one_out c j out.0 out.1 g x run given worker runs) in
     subst (λ job. IsTrueOn script job (work_of d.births d.prints d.stop)) same (true_on script d is_true)
 
-right_for : (script : Script) (nodes : ℕ) (c : Whole) (j : ℕ) (d : Option Done) (h : Handed) → IsHanded c (Commit j) d h → IfSome d (λ x. IsTrueOf script x) → IsRight (beside script nodes []) c (Commit j) h
+right_for : (script : Script) (nodes : ℕ) (c : ClusterState) (j : ℕ) (d : Option Done) (h : CommitInput) → IsHanded c (Commit j) d h → IfSome d (λ x. IsTrueOf script x) → IsRight (beside script nodes []) c (Commit j) h
 right_for script nodes c j None h e is_true = subst (λ x. IsRight (beside script nodes []) c (Commit j) x) (sym e) tt
 right_for script nodes c j (Some d) h (inr e) is_true = subst (λ x. IsRight (beside script nodes []) c (Commit j) x) (sym e.0) tt
 right_for script nodes c j (Some d) h (inl e) is_true = subst (λ x. IsRight (beside script nodes []) c (Commit j) x) (sym e.0) (right_job script nodes c j d is_true e.1)
 
 -- what is handed in as done on a job of the run is true of it
-pub right : (script : Script) (nodes : ℕ) (c : Whole) (e : Event) (d : Option Done) (h : Handed) → IsHanded c e d h → IfSome d (λ x. IsTrueOf script x) → IsRight (beside script nodes []) c e h
+pub right : (script : Script) (nodes : ℕ) (c : ClusterState) (e : Event) (d : Option Done) (h : CommitInput) → IsHanded c e d h → IfSome d (λ x. IsTrueOf script x) → IsRight (beside script nodes []) c e h
 right script nodes c (Claim w) d h e is_true = tt
 right script nodes c (Commit j) d h e is_true = right_for script nodes c j d h e is_true
 right script nodes c (Deliver k) d h e is_true = tt

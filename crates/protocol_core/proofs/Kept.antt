@@ -5,13 +5,13 @@ use Rattle.script_check.specs.Scripts.{IsWellTyped}
 use Rattle.event_log.specs.Entries.{Entry, Event, In}
 use Rattle.log_entries.specs.declared.refusal.Refusal.{Refusal}
 use Rattle.segment.specs.Jobs.{JobParts, Done, IsBegun, IsTrueOf}
-use Rattle.answers.specs.Replies.{come_of, outcome_of, reply_of}
-use Rattle.answers.specs.declared.reply.Answered.{Answered}
-use Rattle.answers.specs.declared.reply.Verdict.{Verdict}
-use Rattle.answers.specs.declared.reply.Verdict.TheVariants.{Taken, Refused}
+use Rattle.event_answers.specs.Replies.{come_of, outcome_of, reply_of}
+use Rattle.event_answers.specs.declared.reply.Answered.{Answered}
+use Rattle.event_answers.specs.declared.reply.Verdict.{Verdict}
+use Rattle.event_answers.specs.declared.reply.Verdict.TheVariants.{Taken, Refused}
 use Rattle.protocol.specs.Answers.{Answer, Takes, Refuses, answer, logged, whole_after}
-use Rattle.protocol.specs.Jobs.{Handed, Job}
-use Rattle.protocol.specs.Whole.{Whole}
+use Rattle.protocol.specs.Jobs.{CommitInput, Job}
+use Rattle.protocol.specs.Cluster.{ClusterState}
 use Rattle.protocol_laws.specs.Given.{ClaimsGiveGoodJobs, ClaimsGiveJobsOfTheLog, GivesGood, GivesOfLog, IsGood, IsGoodIfGiven, IsOfLog, IsOfLogIfGiven, JobsStayOfTheLog}
 use Rattle.protocol_laws.specs.Law.{EventsKeepSound, OpeningIsSound, SoundIsLegal}
 use Rattle.protocol_laws.specs.Sound.{IsSound}
@@ -56,7 +56,7 @@ kept_first script c nodes slots opening legal typed some few slot e =
     (kept_of script (first_state nodes slots) legal typed some few (reached_first script nodes slots slot) (opening (beside script nodes []) slots some))
 
 -- the run that was reached is this one, unless an event found no memory
-same_run : {c d : Whole} {k l : List Entry} → c ≡ d → k ≡ l → ◌≡◌ {A = Running} (record { whole = c; log = k }) (record { whole = d; log = l })
+same_run : {c d : ClusterState} {k l : List Entry} → c ≡ d → k ≡ l → ◌≡◌ {A = Running} (record { whole = c; log = k }) (record { whole = d; log = l })
 same_run e f = cc
 
 pub reached_now : (script : Script) (c : RunState) → (r : IsReachedRun script c) → c.is_halted ≡ false → IsReached (beside script c.first_nodes []) r.slots (run_of c)
@@ -88,7 +88,7 @@ kept_halted script before after kept same nodes halted = record {
 
 -- ---- an event that is applied
 
-module _ (script : Script) (before after : RunState) (e : Event) (seat : ℕ) (work : Option Done) (handed : Handed)
+module _ (script : Script) (before after : RunState) (e : Event) (seat : ℕ) (work : Option Done) (handed : CommitInput)
     (kept : IsSoundRun script before) (goes_on : before.is_halted ≡ false) (is_handed : IsHanded before.whole e work handed)
     (is_true : IfSome work (λ d. IsTrueOf script d)) where
   sound_before : IsSound (beside script before.first_nodes []) before.log before.whole
@@ -183,7 +183,7 @@ tells_job (Refuses code) job e = absurd (none_is_some code (sym (ap refused_by e
 -- ---- an event that was answered, and stands in the log
 
 pub record Came (script : Script) (before after : RunState) (e : Event) (seat : ℕ) (work : Option Done) (outcome : Verdict) : Type 0 where
-  pub handed : Handed
+  pub handed : CommitInput
   pub is_handed : IsHanded before.whole e work handed
   pub is_true : IfSome work (λ d. IsTrueOf script d)
   pub log : after.log ≡ before.log ++ logged e seat (answer before.whole e handed)
@@ -198,7 +198,7 @@ logged_so e seat (Takes s) = refl
 logged_so e seat (Refuses why) = refl
 
 -- what the whole answered to the event as it takes it
-pub came : (script : Script) (before after : RunState) (e taken : Event) (seat : ℕ) (work : Option Done) (handed : Handed) (reply : Answered) →
+pub came : (script : Script) (before after : RunState) (e taken : Event) (seat : ℕ) (work : Option Done) (handed : CommitInput) (reply : Answered) →
     taken ≡ e → IsHanded before.whole e work handed → IfSome work (λ d. IsTrueOf script d) →
     reply ≡ reply_of (answer before.whole taken handed) →
     after.log ≡ before.log ++ In taken seat ∷ reply.entries → after.whole ≡ whole_after before.whole (answer before.whole taken handed) →

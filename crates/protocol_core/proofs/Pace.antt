@@ -8,7 +8,7 @@ use Rattle.event_log.specs.Entries.{Attempt}
 use Rattle.segment.specs.Jobs.{IsBegun, JobParts}
 use Rattle.protocol.specs.Answers.{job_of}
 use Rattle.protocol.specs.Jobs.{Job}
-use Rattle.protocol.specs.Tables.{Run}
+use Rattle.protocol.specs.Tables.{Execution}
 use Rattle.protocol_core.specs.SameJobs.{HasItsAnswers, IsInPace, IsLike, IsShaped}
 
 -- two beginnings of one list that are as long are the same
@@ -30,7 +30,7 @@ same_job n m a c b d o p bs ds vs ws cs es en ea eb eo es1 es2 es3 =
     ∙ ap (λ x. job m c d p x vs cs) es1 ∙ ap (λ x. job m c d p ds x cs) es2 ∙ ap (λ x. job m c d p ds ws x) es3
 
 -- a job that is like the attempt is the attempt's, where both begin what the task does on the answers
-pub like_is_same : (script : Script) (j : JobParts) (number : ℕ) (run : Run) → IsInPace script run → IsBegun script j → IsLike j number run →
+pub like_is_same : (script : Script) (j : JobParts) (number : ℕ) (run : Execution) → IsInPace script run → IsBegun script j → IsLike j number run →
     j ≡ job_of number run
 like_is_same script j number run pace begun is =
     let whole : replay script j.spec j.base j.answers ≡ replay script run.spec run.base run.answers =
@@ -45,7 +45,7 @@ like_is_same script j number run pace begun is =
     is.answers
 
 -- so is one of that shape, where as many of its answers are the attempt's
-pub shaped_is_same : (script : Script) (j : JobParts) (number : ℕ) (run : Run) → IsInPace script run → HasItsAnswers j run → IsBegun script j → IsShaped j number run →
+pub shaped_is_same : (script : Script) (j : JobParts) (number : ℕ) (run : Execution) → IsInPace script run → HasItsAnswers j run → IsBegun script j → IsShaped j number run →
     j ≡ job_of number run
 shaped_is_same script j number run pace answers begun is =
     like_is_same script j number run pace begun

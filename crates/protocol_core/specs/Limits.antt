@@ -3,7 +3,7 @@ use Rattle.std.specs.Prelude.{◌≡◌, ℕ, true, false, [], Option}
 use Rattle.meaning.specs.Syntax.{Script}
 use Rattle.segment.specs.Jobs.{Done}
 use Rattle.event_log.specs.Entries.{Event}
-use Rattle.protocol.specs.Jobs.{Handed}
+use Rattle.protocol.specs.Jobs.{CommitInput}
 use Rattle.count_laws.specs.Counts.{counted, is_within}
 use Rattle.count_laws.specs.Law.{IsLimited}
 use Rattle.protocol_core.specs.States.{RunState, beside, run_of}
@@ -11,7 +11,7 @@ use Rattle.protocol_core.specs.Steps.{IsApplied, IsHanded, Reply}
 
 -- it was applied with what was handed in, and refused 37 exactly where it would have passed a limit by the counts of the log
 pub record EventIsLimited (script : Script) (before : RunState) (e : Event) (seat : ℕ) (done : Option Done) (after : RunState) (told : Reply) : Type 0 where
-  pub handed : Handed
+  pub handed : CommitInput
   pub is_handed : IsHanded before.whole e done handed
   pub applied : IsApplied before after e seat handed told
   pub limited : IsLimited (beside script before.first_nodes []) (run_of before) (record { event = e; seat = seat; handed = handed })

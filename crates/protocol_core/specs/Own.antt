@@ -2,8 +2,8 @@
 use Rattle.std.specs.Prelude.{◌≡◌, ℕ, true, List, Option, Some, None}
 use Rattle.event_log.specs.Entries.{Entry}
 use Rattle.protocol_core.specs.SameJobs.{HasItsAnswers}
-use Rattle.protocol.specs.Tables.{Run, Worker}
-use Rattle.protocol.specs.Whole.{Whole, worker_at}
+use Rattle.protocol.specs.Tables.{Execution, Worker}
+use Rattle.protocol.specs.Cluster.{ClusterState, worker_at}
 use Rattle.protocol_core.specs.Steps.{Reply, GivesJob, Accepts, Refuses}
 use Rattle.protocol_laws.specs.Given.{IsOfLog}
 use Rattle.segment.specs.Jobs.{JobParts, Done}
@@ -20,10 +20,10 @@ GivesOwn log Accepts = Unit {0}
 GivesOwn log (Refuses refusal) = Unit {0}
 
 -- as many answers of the job are those of each live worker's attempt, where the job is of that attempt
-abbrev pub HasAnswersIn : Whole → JobParts → Type 0
-HasAnswersIn c j = (w : ℕ) (x : Worker) (run : Run) → worker_at c w ≡ Some x → x.is_live ≡ true → x.run ≡ Some run → HasItsAnswers j run
+abbrev pub HasAnswersIn : ClusterState → JobParts → Type 0
+HasAnswersIn c j = (w : ℕ) (x : Worker) (run : Execution) → worker_at c w ≡ Some x → x.is_live ≡ true → x.run ≡ Some run → HasItsAnswers j run
 
 -- so it is with the job on which it was done
-abbrev pub HaveAnswersIn : Whole → Option Done → Type 0
+abbrev pub HaveAnswersIn : ClusterState → Option Done → Type 0
 HaveAnswersIn c None = Unit {0}
 HaveAnswersIn c (Some d) = HasAnswersIn c d.job

@@ -5,24 +5,24 @@ use Rattle.script_check.specs.Scripts.{IsWellTyped}
 use Rattle.event_log.specs.Entries.{Entry}
 use Rattle.event_log.specs.Rules.{Setting}
 use Rattle.event_log.specs.Legal.{Legal, opening}
-use Rattle.protocol.specs.Messages.{Letter, receiver_in}
-use Rattle.protocol.specs.Whole.{Whole, first_whole}
+use Rattle.protocol.specs.Messages.{Envelope, receiver_in}
+use Rattle.protocol.specs.Cluster.{ClusterState, first_whole}
 use Rattle.protocol_laws.specs.Sound.{IsSound}
 use Rattle.protocol_owed.specs.Runs.{Running}
 pub use Rattle.count_laws.specs.Law.{IsReached}
 
 -- what the log is read beside: the script, how many nodes there were at first, and the messages that were sent
-abbrev pub beside : Script → ℕ → List Letter → Setting
+abbrev pub beside : Script → ℕ → List Envelope → Setting
 beside script nodes network = record { script = script; nodes = nodes; receiver = receiver_in network }
 
 -- the log is legal beside some network
 abbrev pub IsLegal : Script → ℕ → List Entry → Type 0
-IsLegal script nodes log = (network : List Letter) × Legal (beside script nodes network) log
+IsLegal script nodes log = (network : List Envelope) × Legal (beside script nodes network) log
 
 -- the log, the workers, nodes and messages, how many nodes there were at first, and whether an event found no memory
 pub record RunState : Type 0 where
   pub log : List Entry
-  pub whole : Whole
+  pub whole : ClusterState
   pub first_nodes : ℕ
   pub is_halted : Bool
 

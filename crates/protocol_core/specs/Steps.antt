@@ -9,19 +9,19 @@ use Rattle.log_entries.specs.declared.refusal.Refusal.TheVariants as refusals
 use Rattle.protocol_core.specs.Work.{work_of}
 use Rattle.protocol.specs.Answers.{Answer, answer, job_of, logged, whole_after}
 use Rattle.protocol.specs.Answers as answers
-use Rattle.protocol.specs.Jobs.{Given, Handed, Job, Nothing, OfAnother, OfJob}
+use Rattle.protocol.specs.Jobs.{JobRecord, CommitInput, Job, Nothing, OfAnother, OfJob}
 use Rattle.protocol.specs.Numbered.{item_at}
 use Rattle.protocol.specs.Refusals.{is_of_job}
-use Rattle.protocol.specs.Tables.{Out, Run, Worker}
-use Rattle.protocol.specs.Whole.{Whole, worker_at}
+use Rattle.protocol.specs.Tables.{Out, Execution, Worker}
+use Rattle.protocol.specs.Cluster.{ClusterState, worker_at}
 use Rattle.protocol_laws.specs.Shown.{IsAsShown}
 use Rattle.protocol_core.specs.declared.reply.Reply as coded
 use Rattle.protocol_core.specs.declared.reply.Reply.TheVariants as replies
 use Rattle.protocol_core.specs.States.{RunState, beside}
 
 -- the attempt is out as the job of that number
-pub record IsOutAs (c : Whole) (j : ℕ) (run : Run) : Type 0 where
-  pub given : Given
+pub record IsOutAs (c : ClusterState) (j : ℕ) (run : Execution) : Type 0 where
+  pub given : JobRecord
   pub worker : Worker
   pub was_given : item_at c.jobs j ≡ Some given
   pub of_worker : worker_at c given.worker ≡ Some worker
@@ -29,17 +29,17 @@ pub record IsOutAs (c : Whole) (j : ℕ) (run : Run) : Type 0 where
   pub is_out : run.phase ≡ Out j
 
 -- the job is the one that is out with that number
-abbrev pub IsOut : Whole → ℕ → Job → Type 0
-IsOut c j job = (run : Run) × IsOutAs c j run × (job ≡ job_of j run)
+abbrev pub IsOut : ClusterState → ℕ → Job → Type 0
+IsOut c j job = (run : Execution) × IsOutAs c j run × (job ≡ job_of j run)
 
 -- what is handed in with the commit of a job: nothing, what was done on the job that is out with that number, or on another
-abbrev pub IsHandedFor : Whole → ℕ → Option Done → Handed → Type 0
+abbrev pub IsHandedFor : ClusterState → ℕ → Option Done → CommitInput → Type 0
 IsHandedFor c j None handed = handed ≡ Nothing
 IsHandedFor c j (Some d) handed =
     ((handed ≡ OfJob (work_of d.births d.prints d.stop)) × IsOut c j d.job) ⊎ ((handed ≡ OfAnother) × (IsOut c j d.job → ⊥))
 
 -- what is handed in with an event: with any but a commit nothing
-abbrev pub IsHanded : Whole → Event → Option Done → Handed → Type 0
+abbrev pub IsHanded : ClusterState → Event → Option Done → CommitInput → Type 0
 IsHanded c (Commit j) d handed = IsHandedFor c j d handed
 IsHanded c _ d handed = handed ≡ Nothing
 
@@ -71,7 +71,7 @@ pub record RunsOut (before after : RunState) (told : Reply) : Type 0 where
   pub same : after.log ≡ before.log
 
 -- the event, with its seat and what was handed in, was taken or refused as the pure step says, and stands in the log with what came of it
-pub record IsApplied (before after : RunState) (e : Event) (seat : ℕ) (handed : Handed) (told : Reply) : Type 0 where
+pub record IsApplied (before after : RunState) (e : Event) (seat : ℕ) (handed : CommitInput) (told : Reply) : Type 0 where
   pub log : after.log ≡ before.log ++ logged e seat (answer before.whole e handed)
   pub whole : after.whole ≡ whole_after before.whole (answer before.whole e handed)
   pub nodes : after.first_nodes ≡ before.first_nodes
@@ -80,7 +80,7 @@ pub record IsApplied (before after : RunState) (e : Event) (seat : ℕ) (handed 
 
 -- what an event may make of a state that isn't halted, where nothing wants memory
 abbrev pub Applies : RunState → Event → ℕ → Option Done → RunState → Reply → Type 0
-Applies before e seat done after told = (handed : Handed) × IsHanded before.whole e done handed × IsApplied before after e seat handed told
+Applies before e seat done after told = (handed : CommitInput) × IsHanded before.whole e done handed × IsApplied before after e seat handed told
 
 -- what an event may make of a state that isn't halted
 abbrev pub Follows : RunState → Event → ℕ → Option Done → RunState → Reply → Type 0
@@ -100,7 +100,7 @@ refusal_in (Refuses refusal) = Some refusal
 -- it is answered as the log shows, beside the messages that the run sent and what is handed in
 abbrev pub IsShown : Script → RunState → Event → Option Done → Reply → Type 0
 IsShown script before e done told =
-    (handed : Handed) × IsHanded before.whole e done handed
+    (handed : CommitInput) × IsHanded before.whole e done handed
     × IsAsShown e (shown (beside script before.first_nodes before.whole.network) before.log (is_of_job handed) e) (refusal_in told)
 
 -- so every event is, unless it finds no memory or one before found none

@@ -17,7 +17,7 @@ use crate::steps::step;
 use ids::WorkerId;
 use log_entries::{Entry, Event};
 use meaning_laws::law::{legal_logs_read_as_serial, main_begins_the_serial_run};
-use protocol_data::{Letter, Whole};
+use protocol_data::{ClusterState, Envelope};
 use protocol_laws::law::{opening_is_sound, sound_is_legal};
 use script_check::Checked;
 use segment::{Done, ScriptName};
@@ -86,14 +86,14 @@ impl<S: ScriptName> Core<S> {
     }
 
     /// Every message that was sent so far, in the order of their numbers, which begin with 1.
-    pub fn messages(&self) -> &Seq<Letter>
+    pub fn messages(&self) -> &Seq<Envelope>
         ensures { result.now ≡ self.now.whole.network }
     {
         &self.state.whole.network
     }
 
     /// The run without its log: nodes and workers with their tables, the messages, which of them were delivered, and the jobs.
-    pub fn whole(&self) -> &Whole
+    pub fn whole(&self) -> &ClusterState
         ensures { result.now ≡ self.now.whole }
     {
         &self.state.whole

@@ -11,12 +11,12 @@ use crate::outcomes::outcomes_of;
 use crate::same_job::{is_job_in_pace, is_job_of, is_own_job};
 use log_entries::Event;
 use number_lists::item_at_number;
-use protocol_data::{Handed, Phase, Run, Whole};
+use protocol_data::{ClusterState, CommitInput, Execution, Phase};
 use segment::{Done, DoneParts, ScriptName};
 use std::alloc::{AllocError, Global};
 
 /// Whether the attempt is out as the job of that number.
-fn is_out_as(run: &Run, job: u64) -> bool
+fn is_out_as(run: &Execution, job: u64) -> bool
     ensures out { result ≡ true → run.now.phase ≡ Out job }
     ensures only { run.now.phase ≡ Out job → result ≡ true }
 {
@@ -30,7 +30,7 @@ fn is_out_as(run: &Run, job: u64) -> bool
 /// nor, where the job is one of this run's own, what it was answered. An error is want of memory.
 fn is_done_on<S: ScriptName>(
     alloc: Global,
-    whole: &Whole,
+    whole: &ClusterState,
     job: u64,
     done: &Done<S>,
     is_own: bool,
@@ -64,21 +64,21 @@ fn is_done_on<S: ScriptName>(
 /// What is handed in with the commit of the job: what was done on another job counts as nothing.
 fn handed_for<S: ScriptName>(
     alloc: Global,
-    whole: &Whole,
+    whole: &ClusterState,
     job: u64,
     done: Option<Done<S>>,
     is_own: bool,
-) -> Result<Handed, AllocError>
+) -> Result<CommitInput, AllocError>
     requires pace { AreInPace S.script whole.now }
     requires own { is_own ≡ true → HaveAnswersIn whole.now done }
     ensures handed { IfOk result (λ handed. IsHandedFor whole.now job done handed) }
     ensures is_true { IfSome done (λ d. IsTrueOf S.script d) }
 {
     let Some(done) = done else {
-        return Ok(Handed::Nothing);
+        return Ok(CommitInput::Nothing);
     };
     if !is_done_on(alloc, whole, job, &done, is_own)? {
-        return Ok(Handed::OfAnother);
+        return Ok(CommitInput::OfAnother);
     }
     let DoneParts {
         job: _,
@@ -86,7 +86,7 @@ fn handed_for<S: ScriptName>(
         prints,
         stop,
     } = done.into_parts();
-    Ok(Handed::OfJob(outcomes_of(alloc, births, prints, stop)?))
+    Ok(CommitInput::OfJob(outcomes_of(alloc, births, prints, stop)?))
 }
 
 /// What comes with an event that is no commit is of no use.
@@ -101,11 +101,11 @@ fn discard<S: ScriptName>(done: Option<Done<S>>)
 /// What is handed in with the event. With `is_own` what was done is done on a job of this run.
 pub fn handed_with<S: ScriptName>(
     alloc: Global,
-    whole: &Whole,
+    whole: &ClusterState,
     event: &Event,
     done: Option<Done<S>>,
     is_own: bool,
-) -> Result<Handed, AllocError>
+) -> Result<CommitInput, AllocError>
     requires pace { AreInPace S.script whole.now }
     requires own { is_own ≡ true → HaveAnswersIn whole.now done }
     ensures handed { IfOk result (λ handed. IsHanded whole.now event.now done handed) }
@@ -115,7 +115,7 @@ pub fn handed_with<S: ScriptName>(
         Event::Commit(job) => handed_for(alloc, whole, *job, done, is_own),
         _ => {
             discard(done);
-            Ok(Handed::Nothing)
+            Ok(CommitInput::Nothing)
         }
     }
 }

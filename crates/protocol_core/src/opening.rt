@@ -2,16 +2,16 @@
 
 ghost use Rattle.std.specs.Prelude.{◌≡◌, ◌<◌, ◌∷◌, [], IfOk, OnOk, length};
 ghost use Rattle.meaning.specs.Values.{main_birth};
-ghost use Rattle.protocol.specs.Whole.{driver, first_whole, main_run, with_driver};
+ghost use Rattle.protocol.specs.Cluster.{driver, first_whole, main_run, with_driver};
 ghost use Rattle.protocol_core.specs.Opening.{new_nodes};
 
-use held::{Answers, Births, Origin, Prints};
+use cluster_steps::new_node;
+use held::{Answers, Births, Prints, SharedBirth};
 use ids::{NodeId, ObjectId, WorkerId};
-use protocol_data::{Attempts, Node, Objects, Phase, Run, Whole, Worker};
+use protocol_data::{Attempts, ClusterState, Execution, Node, Objects, Phase, Worker};
 use sequence::Seq;
 use std::alloc::{AllocError, Global};
 use task_spec::Birth;
-use whole_steps::new_node;
 use worker_steps::main_attempt;
 
 /// So many nodes with so many slots each.
@@ -39,7 +39,7 @@ fn give_driver_a_slot(alloc: Global, nodes: &mut Seq<Node>) -> Result<(), AllocE
 }
 
 /// Main as a task: with no arguments, at depth 0, and run once.
-fn main_task(alloc: Global) -> Result<Origin, AllocError>
+fn main_task(alloc: Global) -> Result<SharedBirth, AllocError>
     ensures { IfOk result (λ spec. spec ≡ main_birth) }
 {
     let function = String::from_str(alloc, "main")?;
@@ -50,17 +50,17 @@ fn main_task(alloc: Global) -> Result<Origin, AllocError>
         retries: 0,
         others: 0,
     };
-    Origin::new(alloc, birth)
+    SharedBirth::new(alloc, birth)
 }
 
 /// Main's attempt as it begins.
-fn main_run(alloc: Global) -> Result<Run, AllocError>
+fn main_run(alloc: Global) -> Result<Execution, AllocError>
     ensures { IfOk result (λ run. run ≡ main_run) }
 {
     let spec = main_task(alloc)?;
     let answers = Answers::new(alloc)?;
     let owner = WorkerId(1);
-    Ok(Run {
+    Ok(Execution {
         attempt: main_attempt(),
         spec,
         base: ObjectId { owner, serial: 1 },
@@ -94,7 +94,7 @@ fn driver(alloc: Global) -> Result<Worker, AllocError>
 }
 
 /// So many nodes with so many slots each, as a run begins.
-pub fn first_whole(alloc: Global, nodes: u8, slots: u8) -> Result<Whole, AllocError>
+pub fn first_whole(alloc: Global, nodes: u8, slots: u8) -> Result<ClusterState, AllocError>
     requires { 0 < nodes }
     ensures { IfOk result (λ whole. whole ≡ first_whole nodes slots) }
 {
@@ -103,7 +103,7 @@ pub fn first_whole(alloc: Global, nodes: u8, slots: u8) -> Result<Whole, AllocEr
     give_driver_a_slot(alloc, &mut all)?;
     let mut workers = Seq::new(alloc);
     workers.push(driver(alloc)?)?;
-    Ok(Whole {
+    Ok(ClusterState {
         slots,
         nodes: all,
         workers,

@@ -6,19 +6,19 @@ ghost use Rattle.task_spec.specs.Births.{birth_of};
 ghost use Rattle.protocol_core.specs.Work.{stopped_of, work_of};
 
 use evaluation::PieceStop;
-use held::{Origin, Printed, SharedContent};
+use held::{Printed, SharedBirth, SharedContent};
 use protocol_data::{Outcomes, Stopped};
 use sequence::Seq;
 use std::alloc::{AllocError, Global};
 use task_spec::Birth;
 use values::{Content, RunValue};
 
-fn origins(alloc: Global, births: Vec<Birth>) -> Result<Seq<Origin>, AllocError>
+fn origins(alloc: Global, births: Vec<Birth>) -> Result<Seq<SharedBirth>, AllocError>
     ensures { IfOk result (λ all. all ≡ map birth_of births.items) }
 {
     let mut all = Seq::new(alloc);
     for birth in births {
-        all.push(Origin::new(alloc, birth)?)?;
+        all.push(SharedBirth::new(alloc, birth)?)?;
     }
     Ok(all)
 }

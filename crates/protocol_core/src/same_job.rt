@@ -8,7 +8,7 @@ ghost use Rattle.protocol.specs.Answers.{job_of};
 ghost use Rattle.protocol_core.specs.SameJobs.{HasItsAnswers, IsInPace, IsLike, IsShaped};
 
 use held::{Answers, Births, Prints};
-use protocol_data::Run;
+use protocol_data::Execution;
 use segment::{Job, ScriptName};
 use std::alloc::{AllocError, Global};
 use std::sync::Arc;
@@ -78,7 +78,7 @@ fn are_as_many(answers: &Answers, held: &Answers) -> bool
 }
 
 /// Whether the job is the one of that number, as the attempt is given out, as far as one sees without reading what it bore, printed and was answered.
-fn is_shaped<S: ScriptName>(job: &Job<S>, number: u64, run: &Run) -> bool
+fn is_shaped<S: ScriptName>(job: &Job<S>, number: u64, run: &Execution) -> bool
     ensures shaped { result ≡ true → IsShaped job.now number run.now }
     ensures only { job.now ≡ job_of number run.now → result ≡ true }
 {
@@ -92,7 +92,7 @@ fn is_shaped<S: ScriptName>(job: &Job<S>, number: u64, run: &Run) -> bool
 }
 
 /// Whether the job is the one of that number, as the attempt is given out, as far as one sees without reading what it bore and printed.
-fn is_like<S: ScriptName>(job: &Job<S>, number: u64, run: &Run) -> bool
+fn is_like<S: ScriptName>(job: &Job<S>, number: u64, run: &Execution) -> bool
     ensures like { result ≡ true → IsLike job.now number run.now }
     ensures only { job.now ≡ job_of number run.now → result ≡ true }
 {
@@ -105,7 +105,7 @@ pub fn is_job_of<S: ScriptName>(
     alloc: Global,
     job: &Job<S>,
     number: u64,
-    run: &Run,
+    run: &Execution,
 ) -> Result<bool, AllocError>
     ensures same { IfOk result (λ is. is ≡ true → job.now ≡ job_of number run.now) }
     ensures only { IfOk result (λ is. job.now ≡ job_of number run.now → is ≡ true) }
@@ -119,7 +119,7 @@ pub fn is_job_of<S: ScriptName>(
 /// Whether the job is the one of that number, as the attempt is given out, where what the attempt bore and printed begins what its task does on
 /// its answers. So does what the job has: on the same answers, as much of it is the same, and isn't read.
 #[tactic(auto, using(crate::proofs::Pace::like_is_same))]
-pub fn is_job_in_pace<S: ScriptName>(job: &Job<S>, number: u64, run: &Run) -> bool
+pub fn is_job_in_pace<S: ScriptName>(job: &Job<S>, number: u64, run: &Execution) -> bool
     requires { IsInPace S.script run.now }
     ensures same { result ≡ true → job.now ≡ job_of number run.now }
     ensures only { job.now ≡ job_of number run.now → result ≡ true }
@@ -131,7 +131,7 @@ pub fn is_job_in_pace<S: ScriptName>(job: &Job<S>, number: u64, run: &Run) -> bo
 /// Whether the job is the one of that number, as the attempt is given out, where what the attempt bore and printed begins what its task does on
 /// its answers, and as many answers of the job are the attempt's. Nothing of these is read, so the cost doesn't grow with them.
 #[tactic(auto, using(crate::proofs::Pace::shaped_is_same))]
-pub fn is_own_job<S: ScriptName>(job: &Job<S>, number: u64, run: &Run) -> bool
+pub fn is_own_job<S: ScriptName>(job: &Job<S>, number: u64, run: &Execution) -> bool
     requires pace { IsInPace S.script run.now }
     requires answers { HasItsAnswers job.now run.now }
     ensures same { result ≡ true → job.now ≡ job_of number run.now }

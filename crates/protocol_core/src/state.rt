@@ -10,7 +10,7 @@ use crate::cluster::Cluster;
 use crate::opening::first_whole;
 use ids::{AttemptId, NodeId, ObjectId, WorkerId};
 use log_entries::Entry;
-use protocol_data::Whole;
+use protocol_data::ClusterState;
 use sequence::Seq;
 use std::alloc::{AllocError, Global};
 
@@ -18,7 +18,7 @@ use std::alloc::{AllocError, Global};
 #[derive(Drop)]
 pub struct State {
     /// Workers, nodes, messages and jobs.
-    pub whole: Whole,
+    pub whole: ClusterState,
     /// The entries so far, oldest first.
     pub log: Seq<Entry>,
     /// How many nodes there were at first, from 1 to 64.

@@ -15,7 +15,7 @@ use crate::cursor::cursor_behind;
 use crate::handed::handed_with;
 use crate::reply::Reply;
 use crate::state::State;
-use answers::{Answered, Verdict, answer};
+use event_answers::{Answered, Verdict, answer};
 use log_entries::{Entry, Event, Refusal};
 use meaning_laws::law::{legal_logs_read_as_serial, main_begins_the_serial_run};
 use protocol_laws::law::{

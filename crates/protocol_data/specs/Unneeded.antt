@@ -5,8 +5,8 @@ use Rattle.std.specs.List.{list_any}
 use Rattle.meaning.specs.Births.{same_id}
 use Rattle.event_log.specs.Entries.{Attempt}
 use Rattle.event_log.specs.Words.{same_attempt}
-use Rattle.protocol_data.specs.declared.tables.Maker.{Maker}
-use Rattle.protocol_data.specs.declared.tables.Maker.TheVariants.{Beside, ByTask, WasPut}
+use Rattle.protocol_data.specs.declared.tables.ObjectSource.{ObjectSource}
+use Rattle.protocol_data.specs.declared.tables.ObjectSource.TheVariants.{Beside, ByTask, WasPut}
 use Rattle.protocol_data.specs.declared.tables.Object.{Object}
 use Rattle.protocol_data.specs.declared.tables.Progress.{Progress}
 use Rattle.protocol_data.specs.declared.tables.Progress.TheVariants.{AskedAt, AtRest, RunsOn}
@@ -18,7 +18,7 @@ is_under_way (AskedAt t n) = true
 is_under_way (RunsOn w n) = true
 
 -- it is the first object of a task of which an attempt is asked for, or runs
-abbrev pub is_awaited : Maker → Bool
+abbrev pub is_awaited : ObjectSource → Bool
 is_awaited WasPut = false
 is_awaited (ByTask task) = is_under_way task.progress
 is_awaited (Beside k) = false
@@ -29,7 +29,7 @@ has_holder x = list_any (λ e. not (list_any (λ p. same_id p e) x.removed)) x.a
 
 -- nothing needs the object any more, but perhaps the attempt that bore it
 abbrev pub is_unneeded : Object → Bool
-is_unneeded x = not x.is_released && (is_some x.settled || is_some x.fault) && not (is_awaited x.maker) && not (has_holder x)
+is_unneeded x = not x.is_released && (is_some x.settled || is_some x.fault) && not (is_awaited x.source) && not (has_holder x)
 
 -- there is an attempt, and it bore the object
 abbrev pub is_borne_by : Option Attempt → Object → Bool

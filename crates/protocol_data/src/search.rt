@@ -9,7 +9,7 @@ ghost use Rattle.protocol_data.specs.Searches.{IsLookedOver, IsSearchedBy, IsUns
 ghost use Rattle.protocol_data.specs.declared.tables.Object.{Object};
 ghost use Rattle.indexmap.specs.IndexMap.{index_map_len, values};
 
-use crate::tables::{Maker, Object, Progress};
+use crate::tables::{Object, ObjectSource, Progress};
 use ids::{AttemptId, ObjectId};
 use indexmap::IndexMap;
 use sequence::Seq;
@@ -49,12 +49,12 @@ fn has_holder(object: &Object) -> bool
 }
 
 /// Whether an attempt of the task that makes the object is asked for or under way.
-fn is_awaited(maker: &Maker) -> bool
-    ensures { result ≡ is_awaited maker.now }
+fn is_awaited(source: &ObjectSource) -> bool
+    ensures { result ≡ is_awaited source.now }
 {
-    match maker {
-        Maker::WasPut | Maker::Beside(_) => false,
-        Maker::ByTask(task) => match &task.progress {
+    match source {
+        ObjectSource::WasPut | ObjectSource::Beside(_) => false,
+        ObjectSource::ByTask(task) => match &task.progress {
             Progress::AtRest => false,
             Progress::AskedAt(..) => true,
             Progress::RunsOn(..) => true,
@@ -68,7 +68,7 @@ fn is_unneeded(object: &Object) -> bool
 {
     !object.is_released
         && (object.settled.is_some() || object.fault.is_some())
-        && !is_awaited(&object.maker)
+        && !is_awaited(&object.source)
         && !has_holder(object)
 }
 

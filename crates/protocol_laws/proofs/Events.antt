@@ -13,19 +13,19 @@ use Rattle.event_log.specs.Words.{births, next_serial}
 use Rattle.event_log.specs.Causes.{IsRefusal}
 use Rattle.event_log.specs.Rules.{Setting, ToWorker, worker_to}
 use Rattle.holding_steps.specs.of_protocol.Numbered.{changed_at, item_at}
-use Rattle.holding_steps.specs.of_protocol.Messages.{Letter, Party, TheWorker, TheNode, goes_to_by, receiver_of}
-use Rattle.holding_steps.specs.of_protocol.Jobs.{Given, Handed, Nothing, OfAnother, OfJob}
+use Rattle.holding_steps.specs.of_protocol.Messages.{Envelope, Endpoint, TheWorker, TheNode, goes_to_by, receiver_of}
+use Rattle.holding_steps.specs.of_protocol.Jobs.{JobRecord, CommitInput, Nothing, OfAnother, OfJob}
 use Rattle.holding_steps.specs.of_protocol.Nodes.{Node}
 use Rattle.holding_steps.specs.of_protocol.Slots.{forgets, node_reached}
 use Rattle.holding_steps.specs.of_protocol.Stores.{evict_refusal, lose_refusal}
-use Rattle.holding_steps.specs.of_protocol.Tables.{Out, Run, Worker}
-use Rattle.holding_steps.specs.of_protocol.Steps.{Here}
+use Rattle.holding_steps.specs.of_protocol.Tables.{Out, Execution, Worker}
+use Rattle.holding_steps.specs.of_protocol.Steps.{WorkerContext}
 use Rattle.holding_steps.specs.of_protocol.Commits.{claim_by, claim_step, commit_step}
 use Rattle.holding_steps.specs.of_protocol.Notices.{notice_step, notice_node_step}
 use Rattle.holding_steps.specs.of_protocol.Ticks.{tick_step}
 use Rattle.holding_steps.specs.of_protocol.Deliveries.{reached}
 use Rattle.holding_steps.specs.of_protocol.Releases.{release_step}
-use Rattle.holding_steps.specs.of_protocol.Whole.{Whole, Moved, moved, node_at, worker_at, here, there, after_node, after_worker, worker_does, worker_does_by, worker_does_at, node_does, node_does_by}
+use Rattle.holding_steps.specs.of_protocol.Cluster.{ClusterState, Transition, moved, node_at, worker_at, here, there, after_node, after_worker, worker_does, worker_does_by, worker_does_at, node_does, node_does_by}
 use Rattle.holding_steps.specs.of_protocol.Events.{is_live_worker, is_live_node, with_committed, with_delivered, delivered_to, delivered_by, committed_by, dead, dies_with, killed, killed_by, happens, objects_made}
 use Rattle.holding_steps.specs.of_protocol.Refusals.{no_worker, is_ready_run, has_slot, is_ready_on, commit_refusal, is_out_by, is_dead_worker, is_dead_node, refusal, is_within_limits, unless}
 use Rattle.holding_steps.specs.of_protocol.Answers.{Answer, Refuses, answer, decided, takes, given_out, whole_after, logged}
@@ -58,27 +58,27 @@ use Rattle.protocol_laws.proofs.Tests.{WorkerThere, dead_node, dead_worker, live
 use Rattle.holding_steps.proofs.of_numbered.Lists.{item_within, changed-length}
 
 -- after the event, which made this of the whole, the run is sound
-abbrev pub Follows : Setting → List Entry → Event → ℕ → Moved → Type 0
+abbrev pub Follows : Setting → List Entry → Event → ℕ → Transition → Type 0
 Follows s log e seat m = IsSound s (log ++ In e seat ∷ m.out.entries) m.whole
 
-both : (s : Setting) (log : List Entry) (e : Event) (seat : ℕ) (m : Moved) → Between s (log ++ In e seat ∷ m.out.entries) m.whole → StillTrue log e seat m → JobsAreOut m.whole → Follows s log e seat m
+both : (s : Setting) (log : List Entry) (e : Event) (seat : ℕ) (m : Transition) → Between s (log ++ In e seat ∷ m.out.entries) m.whole → StillTrue log e seat m → JobsAreOut m.whole → Follows s log e seat m
 both s log e seat m b t o = record { between = b; past = t.later; held = t.kept; jobs = o }
 
 -- whose workers and jobs are those of before
-beside_jobs : (c d : Whole) → d.workers ≡ c.workers → d.jobs ≡ c.jobs → JobsAreOut c → JobsAreOut d
+beside_jobs : (c d : ClusterState) → d.workers ≡ c.workers → d.jobs ≡ c.jobs → JobsAreOut c → JobsAreOut d
 beside_jobs c d same jobs o = record {
   given = λ j g at. subst (λ (ws : List Worker). g.worker < length ws + 1) (sym same) (o.given j g (ap (λ js. item_at js j) (sym jobs) ∙ at));
   named = λ j g at. o.named j g (ap (λ js. item_at js j) (sym jobs) ∙ at);
   out = λ j g x at fresh there. o.out j g x (ap (λ js. item_at js j) (sym jobs) ∙ at) fresh (ap (λ ws. item_at ws g.worker) (sym same) ∙ there);
 }
 
-claim_out : (h : Here) (j : ℕ) (run : Run) → h.worker.run ≡ Some run → IsOutAs j (claim_step h j).worker
+claim_out : (h : WorkerContext) (j : ℕ) (run : Execution) → h.worker.run ≡ Some run → IsOutAs j (claim_step h j).worker
 claim_out h j run is = subst (λ r. IsOutAs j (claim_by h j r).worker) (sym is) (record run { phase = Out j }, refl, refl)
 
-does_is : (c : Whole) (w : ℕ) (step : Here → Here) (x : Worker) (node : Node) → worker_at c w ≡ Some x → node_at c x.node ≡ Some node → worker_does c w step ≡ after_worker c w x.node (release_step (step (here c w x node)))
+does_is : (c : ClusterState) (w : ℕ) (step : WorkerContext → WorkerContext) (x : Worker) (node : Node) → worker_at c w ≡ Some x → node_at c x.node ≡ Some node → worker_does c w step ≡ after_worker c w x.node (release_step (step (here c w x node)))
 does_is c w step x node at home = ap (worker_does_by c w step) at ∙ ap (worker_does_at c w x step) home
 
-module _ (s : Setting) (apart : KeepsMainApart s.script) (log : List Entry) (c : Whole) (sound : IsSound s log c) where
+module _ (s : Setting) (apart : KeepsMainApart s.script) (log : List Entry) (c : ClusterState) (sound : IsSound s log c) where
   abbrev S : Setting
   S = setting_of s c
 
@@ -99,7 +99,7 @@ module _ (s : Setting) (apart : KeepsMainApart s.script) (log : List Entry) (c :
 
   -- ---- an event of a worker
 
-  module _ (e : Event) (seat w : ℕ) (x : Worker) (at : worker_at c w ≡ Some x) (live : x.is_live ≡ true) (own : IsOwnEvent S log e w) (jobs : List Given) (made : ℕ) (delivered : List Bool) (follow : JobsFollow log e jobs) (step : Here → Here) where
+  module _ (e : Event) (seat w : ℕ) (x : Worker) (at : worker_at c w ≡ Some x) (live : x.is_live ≡ true) (own : IsOwnEvent S log e w) (jobs : List JobRecord) (made : ℕ) (delivered : List Bool) (follow : JobsFollow log e jobs) (step : WorkerContext → WorkerContext) where
     abbrev home : (node : Node) × (node_at c x.node ≡ Some node) × (node.is_live ≡ true)
     home = b.knows.housed w x at live
 
@@ -109,10 +109,10 @@ module _ (s : Setting) (apart : KeepsMainApart s.script) (log : List Entry) (c :
     abbrev d : During
     d = record { log = log; event = e; seat = seat }
 
-    abbrev h : Here
+    abbrev h : WorkerContext
     h = here c w x home.0
 
-    abbrev c1 : Whole
+    abbrev c1 : ClusterState
     c1 = record c { jobs = jobs; made = made; delivered = delivered }
 
     -- the worker's step is allowed up to the releases, and where that is so, the past goes on
@@ -133,13 +133,13 @@ module _ (s : Setting) (apart : KeepsMainApart s.script) (log : List Entry) (c :
         })
 
   -- a worker whose step begins with what is true within an event
-  at_once : {f : Frame} {h : Here} → Arrives f h → SoundHere f f.asked h → ComesTo f h
+  at_once : {f : Frame} {h : WorkerContext} → Arrives f h → SoundHere f f.asked h → ComesTo f h
   at_once {f} {h} a k = record { asked = f.asked; sound = k; heeds = a.heeds }
 
   -- ---- claims and ticks
 
   -- who may claim has no job that is out
-  idle_claim : (w : ℕ) (handed : Handed) → refusal c (Claim w) handed ≡ None → has_job_out w log ≡ false
+  idle_claim : (w : ℕ) (handed : CommitInput) → refusal c (Claim w) handed ≡ None → has_job_out w log ≡ false
   idle_claim w handed r =
       let parts = or_none (no_worker c w) (unless (is_ready_on c w (worker_at c w)) NotReady) r in
       let l = live_worker c w (unless_none (is_live_worker (worker_at c w)) NoWorker parts.0) in
@@ -151,7 +151,7 @@ module _ (s : Setting) (apart : KeepsMainApart s.script) (log : List Entry) (c :
   within : (w : ℕ) (x : Worker) → worker_at c w ≡ Some x → w < length c.workers + 1
   within w x at = let i = (item_within c.workers w x at).0 in omega (arith, i)
 
-  claim_event : (w seat : ℕ) (handed : Handed) → refusal c (Claim w) handed ≡ None → Follows s log (Claim w) seat (happens c (Claim w) handed)
+  claim_event : (w seat : ℕ) (handed : CommitInput) → refusal c (Claim w) handed ≡ None → Follows s log (Claim w) seat (happens c (Claim w) handed)
   claim_event w seat handed r =
       let parts = or_none (no_worker c w) (unless (is_ready_on c w (worker_at c w)) NotReady) r in
       let l = live_worker c w (unless_none (is_live_worker (worker_at c w)) NoWorker parts.0) in
@@ -166,7 +166,7 @@ module _ (s : Setting) (apart : KeepsMainApart s.script) (log : List Entry) (c :
       (λ u lands. steps_land.claim _ facts _ j u)
       (own_given c sound.jobs w l.worker l.at run.0 run.1 run.2 (within w l.worker l.at) _ (out_at_release j (claim_step (here c w l.worker (b.knows.housed w l.worker l.at l.lives).0) j) (claim_out (here c w l.worker (b.knows.housed w l.worker l.at l.lives).0) j run.0 run.1)))
 
-  tick_event : (w seat : ℕ) (handed : Handed) → refusal c (Tick w) handed ≡ None → Follows s log (Tick w) seat (happens c (Tick w) handed)
+  tick_event : (w seat : ℕ) (handed : CommitInput) → refusal c (Tick w) handed ≡ None → Follows s log (Tick w) seat (happens c (Tick w) handed)
   tick_event w seat handed r =
       let l = live_worker c w (unless_none (is_live_worker (worker_at c w)) NoWorker r) in
       worker_event (Tick w) seat w l.worker l.at l.lives (record { own = refl; spares = λ v n. refl; spares_nodes = λ n. refl; brings_none = refl })
@@ -178,7 +178,7 @@ module _ (s : Setting) (apart : KeepsMainApart s.script) (log : List Entry) (c :
 
   -- ---- notices
 
-  notice_event : (w v seat : ℕ) (handed : Handed) → refusal c (Notice w v) handed ≡ None → Follows s log (Notice w v) seat (happens c (Notice w v) handed)
+  notice_event : (w v seat : ℕ) (handed : CommitInput) → refusal c (Notice w v) handed ≡ None → Follows s log (Notice w v) seat (happens c (Notice w v) handed)
   notice_event w v seat handed r =
       let parts = or_none (no_worker c w) (unless (is_dead_worker (worker_at c v)) NotDead) r in
       let l = live_worker c w (unless_none (is_live_worker (worker_at c w)) NoWorker parts.0) in
@@ -191,7 +191,7 @@ module _ (s : Setting) (apart : KeepsMainApart s.script) (log : List Entry) (c :
       (λ u lands. steps_land.notice _ S facts _ v u (t.dead v k.worker k.at k.lives) lands)
       (own_stay c sound.jobs w l.worker l.at _ (λ i p. out_at_release i (notice_step (here c w l.worker (b.knows.housed w l.worker l.at l.lives).0) v) (out_at_notice i (here c w l.worker (b.knows.housed w l.worker l.at l.lives).0) v p)))
 
-  node_notice_event : (w n seat : ℕ) (handed : Handed) → refusal c (NoticeNode w n) handed ≡ None → Follows s log (NoticeNode w n) seat (happens c (NoticeNode w n) handed)
+  node_notice_event : (w n seat : ℕ) (handed : CommitInput) → refusal c (NoticeNode w n) handed ≡ None → Follows s log (NoticeNode w n) seat (happens c (NoticeNode w n) handed)
   node_notice_event w n seat handed r =
       let parts = or_none (no_worker c w) (unless (is_dead_node (node_at c n)) NotDead) r in
       let l = live_worker c w (unless_none (is_live_worker (worker_at c w)) NoWorker parts.0) in
@@ -206,7 +206,7 @@ module _ (s : Setting) (apart : KeepsMainApart s.script) (log : List Entry) (c :
 
   -- ---- deliveries
 
-  deliver_to : (k seat : ℕ) (l : Letter) → item_at c.network k ≡ Some l → (r : Party) → l.receiver ≡ r → Follows s log (Deliver k) seat (delivered_to (with_delivered c k) l r)
+  deliver_to : (k seat : ℕ) (l : Envelope) → item_at c.network k ≡ Some l → (r : Endpoint) → l.receiver ≡ r → Follows s log (Deliver k) seat (delivered_to (with_delivered c k) l r)
   deliver_to k seat l sent (TheWorker w) to = at_test (λ i. is_live_worker (worker_at c w) ≡ i → Follows s log (Deliver k) seat (if i then worker_does (with_delivered c k) w (λ g. reached g l.sender l.message) else moved (with_delivered c k)))
       (is_live_worker (worker_at c w)) lives passes refl
     where
@@ -219,10 +219,10 @@ module _ (s : Setting) (apart : KeepsMainApart s.script) (log : List Entry) (c :
       is_to_worker = ap goes_to_by sent ∙ ap (λ r. Some (receiver_of r)) to
 
       said : SaysBetween (past (log ++ In (Deliver k) seat ∷ []) b.asked) l.sender (TheWorker w) l.message
-      said = subst (λ (r : Party). SaysBetween (past (log ++ In (Deliver k) seat ∷ []) b.asked) l.sender r l.message) to (said_behind s log c b k seat l sent)
+      said = subst (λ (r : Endpoint). SaysBetween (past (log ++ In (Deliver k) seat ∷ []) b.asked) l.sender r l.message) to (said_behind s log c b k seat l sent)
 
       true_there : MessageTrue facts (TheWorker w) l.message
-      true_there = subst (λ (r : Party). MessageTrue facts r l.message) to (steps_land.letter facts c.network k l t.network sent)
+      true_there = subst (λ (r : Endpoint). MessageTrue facts r l.message) to (steps_land.envelope facts c.network k l t.network sent)
 
       lives : is_live_worker (worker_at c w) ≡ true → is_live_worker (worker_at c w) ≡ true → Follows s log (Deliver k) seat (worker_does (with_delivered c k) w (λ g. reached g l.sender l.message))
       lives live _ =
@@ -246,40 +246,40 @@ module _ (s : Setting) (apart : KeepsMainApart s.script) (log : List Entry) (c :
       lives live =
           let x = live_node c n live in
           both s log (Deliver k) seat (node_does (with_delivered c k) n (λ g. node_reached g l.sender l.message))
-          (subst (λ (m : Moved). Between s (log ++ In (Deliver k) seat ∷ m.out.entries) m.whole) (ap (node_does_by (with_delivered c k) n (λ g. node_reached g l.sender l.message)) (sym x.at)) (on_others.node_reached k seat n x.node l sent to x.at x.lives (with_delivered c k).delivered))
-          (subst (λ (m : Moved). StillTrue log (Deliver k) seat m) (to_node live) (steps_land.delivers log facts S c (Deliver k) seat k t (λ i w y node j p q r. absurd (other i w j p))))
-          (subst (λ (m : Moved). JobsAreOut m.whole) (ap (node_does_by (with_delivered c k) n (λ g. node_reached g l.sender l.message)) (sym x.at))
+          (subst (λ (m : Transition). Between s (log ++ In (Deliver k) seat ∷ m.out.entries) m.whole) (ap (node_does_by (with_delivered c k) n (λ g. node_reached g l.sender l.message)) (sym x.at)) (on_others.node_reached k seat n x.node l sent to x.at x.lives (with_delivered c k).delivered))
+          (subst (λ (m : Transition). StillTrue log (Deliver k) seat m) (to_node live) (steps_land.delivers log facts S c (Deliver k) seat k t (λ i w y node j p q r. absurd (other i w j p))))
+          (subst (λ (m : Transition). JobsAreOut m.whole) (ap (node_does_by (with_delivered c k) n (λ g. node_reached g l.sender l.message)) (sym x.at))
           (let u = node_reached (there (with_delivered c k) n x.node) l.sender l.message in
           jobs_kept c (after_node (with_delivered c k) n u).whole refl u.opened (long_opened c c.workers u.opened n refl) (from_opened c c.workers u.opened n refl (from_same c)) sound.jobs))
         where
           clash : (w : ℕ) → TheNode n ≡ TheWorker w → ⊥
           clash w e = cc
 
-          other : (i : Letter) (w : ℕ) → item_at c.network k ≡ Some i → i.receiver ≡ TheWorker w → ⊥
-          other i w j p = clash w (sym to ∙ ap (λ (v : Letter). v.receiver) (same_Some l i (sym sent ∙ j)) ∙ p)
+          other : (i : Envelope) (w : ℕ) → item_at c.network k ≡ Some i → i.receiver ≡ TheWorker w → ⊥
+          other i w j p = clash w (sym to ∙ ap (λ (v : Envelope). v.receiver) (same_Some l i (sym sent ∙ j)) ∙ p)
 
           to_node : is_live_node (node_at c n) ≡ true → delivered_by c k (item_at c.network k) ≡ node_does (with_delivered c k) n (λ g. node_reached g l.sender l.message)
           to_node i = ap (delivered_by c k) sent ∙ ap (delivered_to (with_delivered c k) l) to ∙ ap (λ v. if v then node_does (with_delivered c k) n (λ g. node_reached g l.sender l.message) else moved (with_delivered c k)) i
 
-  deliver_event : (k seat : ℕ) (handed : Handed) → refusal c (Deliver k) handed ≡ None → Follows s log (Deliver k) seat (happens c (Deliver k) handed)
+  deliver_event : (k seat : ℕ) (handed : CommitInput) → refusal c (Deliver k) handed ≡ None → Follows s log (Deliver k) seat (happens c (Deliver k) handed)
   deliver_event k seat handed r = go (item_at c.network k) refl (unless_none (is_some (item_at c.network k)) NoMessage r)
     where
-      go : (o : Option Letter) → item_at c.network k ≡ o → is_some o ≡ true → Follows s log (Deliver k) seat (delivered_by c k o)
+      go : (o : Option Envelope) → item_at c.network k ≡ o → is_some o ≡ true → Follows s log (Deliver k) seat (delivered_by c k o)
       go None e h = absurd (cc)
       go (Some l) e h = deliver_to k seat l e l.receiver refl
 
   -- ---- commits
 
-  commit_event : (j seat : ℕ) (handed : Handed) → refusal c (Commit j) handed ≡ None → IsRight s c (Commit j) handed → Follows s log (Commit j) seat (happens c (Commit j) handed)
+  commit_event : (j seat : ℕ) (handed : CommitInput) → refusal c (Commit j) handed ≡ None → IsRight s c (Commit j) handed → Follows s log (Commit j) seat (happens c (Commit j) handed)
   commit_event j seat handed r right = go handed (item_at c.jobs j) refl r right
     where
       never : false ≡ true → ⊥
       never q = cc
 
-      nothing : (g : Given) → not g.is_committed && false ≡ true → ⊥
+      nothing : (g : JobRecord) → not g.is_committed && false ≡ true → ⊥
       nothing g q = never (and_parts (not g.is_committed) false q).1
 
-      go : (handed : Handed) (o : Option Given) → item_at c.jobs j ≡ o → commit_refusal c j handed o ≡ None → IsRight s c (Commit j) handed → Follows s log (Commit j) seat (committed_by c j handed o)
+      go : (handed : CommitInput) (o : Option JobRecord) → item_at c.jobs j ≡ o → commit_refusal c j handed o ≡ None → IsRight s c (Commit j) handed → Follows s log (Commit j) seat (committed_by c j handed o)
       go handed None e h right = absurd (cc)
       go Nothing (Some g) e h right = absurd (nothing g (and_parts (not g.is_committed && false) (is_out_by (worker_at c g.worker) j) (unless_none _ NoJob (or_none _ _ h).0)).0)
       go OfAnother (Some g) e h right = absurd (nothing g (and_parts (not g.is_committed && false) (is_out_by (worker_at c g.worker) j) (unless_none _ NoJob (or_none _ _ h).0)).0)
@@ -289,7 +289,7 @@ module _ (s : Setting) (apart : KeepsMainApart s.script) (log : List Entry) (c :
           let a = and_parts (not g.is_committed && true) (is_out_by (worker_at c g.worker) j) (unless_none (not g.is_committed && true && is_out_by (worker_at c g.worker) j) NoJob parts.0) in
           let fresh : g.is_committed ≡ false = not-true g.is_committed (and_parts (not g.is_committed) true a.0).0 in
           let run = out_run l.worker.run j (ap (λ (i : Option Worker). is_out_by i j) (sym l.at) ∙ a.1) in
-          let claimed : worker_of_job j log ≡ Some g.worker = ap (λ (ws : List ℕ). from_one ws j) b.knows.claims ∙ from_one_of (λ (i : Given). i.worker) c.jobs j g e in
+          let claimed : worker_of_job j log ≡ Some g.worker = ap (λ (ws : List ℕ). from_one ws j) b.knows.claims ∙ from_one_of (λ (i : JobRecord). i.worker) c.jobs j g e in
           let done = right g l.worker run.0 e l.at run.1 run.2 in
           worker_event (Commit j) seat g.worker l.worker l.at l.lives (record { own = claimed; spares = λ v n. refl; spares_nodes = λ n. refl; brings_none = refl })
           (with_committed c j (objects_made o.births)).jobs (with_committed c j (objects_made o.births)).made c.delivered (on_workers.job_committed j g e) (λ k. commit_step k o)
@@ -304,7 +304,7 @@ module _ (s : Setting) (apart : KeepsMainApart s.script) (log : List Entry) (c :
           (λ u lands. steps_land.commit _ S facts _ run.0 o u run.1 (next_there g l) lands)
           (own_committed c sound.jobs g.worker l.worker l.at j run.0 run.1 run.2 _)
         where
-          next_there : (g : Given) (l : WorkerThere c g.worker true) → length l.worker.objects + 1 ≡ next_serial g.worker (births (log ++ In (Commit j) seat ∷ []))
+          next_there : (g : JobRecord) (l : WorkerThere c g.worker true) → length l.worker.objects + 1 ≡ next_serial g.worker (births (log ++ In (Commit j) seat ∷ []))
           next_there g l = sym (ap (next_serial g.worker) (births_in log (Commit j) seat) ∙ (b.knows.workers g.worker l.worker l.at l.lives).serial)
 
   -- ---- events of nobody
@@ -328,7 +328,7 @@ module _ (s : Setting) (apart : KeepsMainApart s.script) (log : List Entry) (c :
       by_worker None = sound.jobs
       by_worker (Some x) = by_node x (node_at c x.node)
 
-  happens_to : (e : Event) (seat : ℕ) (handed : Handed) → refusal c e handed ≡ None → IsRight s c e handed → Follows s log e seat (happens c e handed)
+  happens_to : (e : Event) (seat : ℕ) (handed : CommitInput) → refusal c e handed ≡ None → IsRight s c e handed → Follows s log e seat (happens c e handed)
   happens_to (Claim w) seat handed r right = claim_event w seat handed r
   happens_to (Commit j) seat handed r right = commit_event j seat handed r right
   happens_to (Deliver k) seat handed r right = deliver_event k seat handed r
@@ -363,7 +363,7 @@ module _ (s : Setting) (apart : KeepsMainApart s.script) (log : List Entry) (c :
   refused_event : (e : Event) (seat : ℕ) (code : Refusal) → IsRefusal S log e code → IsSound s (log ++ In e seat ∷ Refused code ∷ []) c
   refused_event e seat code cause = record { between = on_others.refused e seat code cause; jobs = sound.jobs; past = facts; held = refused_true log facts c e seat code t }
 
-  pub event_stays : (e : Event) (seat : ℕ) (handed : Handed) → IsRight s c e handed → Stands e seat (answer c e handed)
+  pub event_stays : (e : Event) (seat : ℕ) (handed : CommitInput) → IsRight s c e handed → Stands e seat (answer c e handed)
   event_stays e seat handed right = go (refusal c e handed) refl
     where
       go : (o : Option Refusal) → refusal c e handed ≡ o → Stands e seat (decided c e handed o)

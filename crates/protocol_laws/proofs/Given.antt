@@ -19,9 +19,9 @@ use Rattle.event_log.specs.Legal.{opening}
 use Rattle.event_log.proofs.Extending.{births-more}
 use Rattle.event_log.proofs.SaneLaws.{always, none_at, one_at, word_last}
 use Rattle.protocol_legal.proofs.of_kind_laws.Laws.{legal_logs_keep}
-use Rattle.holding_steps.specs.of_protocol.Jobs.{Handed}
-use Rattle.holding_steps.specs.of_protocol.Tables.{Run, Worker}
-use Rattle.holding_steps.specs.of_protocol.Whole.{Whole, node_at, worker_at}
+use Rattle.holding_steps.specs.of_protocol.Jobs.{CommitInput}
+use Rattle.holding_steps.specs.of_protocol.Tables.{Execution, Worker}
+use Rattle.holding_steps.specs.of_protocol.Cluster.{ClusterState, node_at, worker_at}
 use Rattle.holding_steps.specs.of_protocol.Events.{happens, is_live_worker}
 use Rattle.holding_steps.specs.of_protocol.Refusals.{has_slot, is_ready_on, is_ready_run, is_within_limits, no_worker, refusal, unless}
 use Rattle.holding_steps.specs.of_protocol.Answers.{Refuses, decided, given_out, job_at, job_by, job_of, takes}
@@ -70,15 +70,15 @@ task_first o k w e =
 -- ---- the job
 
 -- a live worker's attempt, whose job a claim gives out
-record GivenRun (c : Whole) (w : ℕ) : Type 0 where
+record GivenRun (c : ClusterState) (w : ℕ) : Type 0 where
   worker : Worker
-  run : Run
+  run : Execution
   at : worker_at c w ≡ Some worker
   lives : worker.is_live ≡ true
   runs : worker.run ≡ Some run
   given : given_out c (Claim w) ≡ Some (job_of (length c.jobs + 1) run)
 
-given_run : (c : Whole) (w : ℕ) (handed : Handed) → refusal c (Claim w) handed ≡ None → GivenRun c w
+given_run : (c : ClusterState) (w : ℕ) (handed : CommitInput) → refusal c (Claim w) handed ≡ None → GivenRun c w
 given_run c w handed r =
     let parts = or_none (no_worker c w) (unless (is_ready_on c w (worker_at c w)) NotReady) r in
     let l = live_worker c w (unless_none (is_live_worker (worker_at c w)) NoWorker parts.0) in
@@ -95,8 +95,8 @@ given_run c w handed r =
       given = ap (job_at number) l.at ∙ ap (job_by number) run.1;
     }
 
-module _ (s : Setting) (checks : ScriptChecks s.script s.script) (main : IsBirthOf s.script main_birth (Number ∷ [])) (log : List Entry) (c : Whole) (sound : IsSound s log c) where
-  run_is_good : (number w : ℕ) (x : Worker) (run : Run) → worker_at c w ≡ Some x → x.is_live ≡ true → x.run ≡ Some run → IsGood s.script (job_of number run)
+module _ (s : Setting) (checks : ScriptChecks s.script s.script) (main : IsBirthOf s.script main_birth (Number ∷ [])) (log : List Entry) (c : ClusterState) (sound : IsSound s log c) where
+  run_is_good : (number w : ℕ) (x : Worker) (run : Execution) → worker_at c w ≡ Some x → x.is_live ≡ true → x.run ≡ Some run → IsGood s.script (job_of number run)
   run_is_good number w x run at live is =
       let S = setting_of s c in
       let k : KnowsRun S log w x run = (sound.between.knows.workers w x at live).run run is in
@@ -111,12 +111,12 @@ module _ (s : Setting) (checks : ScriptChecks s.script s.script) (main : IsBirth
             (subst (λ vs. IsFirst vs (replay s.script run.spec run.base (answers_of run.attempt log)).prints) k.prints pace.prints);
       }
 
-  given_is_good : (w : ℕ) (handed : Handed) → refusal c (Claim w) handed ≡ None → IsGoodIfGiven s.script (given_out c (Claim w))
+  given_is_good : (w : ℕ) (handed : CommitInput) → refusal c (Claim w) handed ≡ None → IsGoodIfGiven s.script (given_out c (Claim w))
   given_is_good w handed r =
       let g = given_run c w handed r in
       subst (IsGoodIfGiven s.script) (sym g.given) (run_is_good (length c.jobs + 1) w g.worker g.run g.at g.lives g.runs)
 
-  gives_good : (w : ℕ) (handed : Handed) → (o : Option Refusal) → refusal c (Claim w) handed ≡ o → GivesGood s.script (decided c (Claim w) handed o)
+  gives_good : (w : ℕ) (handed : CommitInput) → (o : Option Refusal) → refusal c (Claim w) handed ≡ o → GivesGood s.script (decided c (Claim w) handed o)
   gives_good w handed (Some code) r = tt
   gives_good w handed None r = at_test (λ i. GivesGood s.script (if i then takes (happens c (Claim w) handed) (given_out c (Claim w)) else Refuses Limit)) (is_within_limits (happens c (Claim w) handed).whole)
       (λ i. given_is_good w handed r) (λ i. tt)
@@ -138,16 +138,16 @@ begins_more [] ys more h = tt
 begins_more (x ∷ xs) [] more h = absurd h
 begins_more (x ∷ xs) (y ∷ ys) more h = (h.0, begins_more xs ys more h.1)
 
-module _ (s : Setting) (log : List Entry) (c : Whole) (sound : IsSound s log c) where
-  has_answers : (w : ℕ) (x : Worker) (run : Run) → worker_at c w ≡ Some x → x.is_live ≡ true → x.run ≡ Some run → answers_of run.attempt log ≡ run.answers
+module _ (s : Setting) (log : List Entry) (c : ClusterState) (sound : IsSound s log c) where
+  has_answers : (w : ℕ) (x : Worker) (run : Execution) → worker_at c w ≡ Some x → x.is_live ≡ true → x.run ≡ Some run → answers_of run.attempt log ≡ run.answers
   has_answers w x run at live is = let k : KnowsRun (setting_of s c) log w x run = (sound.between.knows.workers w x at live).run run is in k.answers
 
-  given_of_log : (w : ℕ) (handed : Handed) → refusal c (Claim w) handed ≡ None → IsOfLogIfGiven log (given_out c (Claim w))
+  given_of_log : (w : ℕ) (handed : CommitInput) → refusal c (Claim w) handed ≡ None → IsOfLogIfGiven log (given_out c (Claim w))
   given_of_log w handed r =
       let g = given_run c w handed r in
       subst (IsOfLogIfGiven log) (sym g.given) (subst (IsFirst g.run.answers) (sym (has_answers w g.worker g.run g.at g.lives g.runs)) (begins_itself g.run.answers))
 
-  gives_of_log : (w : ℕ) (handed : Handed) → (o : Option Refusal) → refusal c (Claim w) handed ≡ o → GivesOfLog log (decided c (Claim w) handed o)
+  gives_of_log : (w : ℕ) (handed : CommitInput) → (o : Option Refusal) → refusal c (Claim w) handed ≡ o → GivesOfLog log (decided c (Claim w) handed o)
   gives_of_log w handed (Some code) r = tt
   gives_of_log w handed None r = at_test (λ i. GivesOfLog log (if i then takes (happens c (Claim w) handed) (given_out c (Claim w)) else Refuses Limit)) (is_within_limits (happens c (Claim w) handed).whole)
       (λ i. given_of_log w handed r) (λ i. tt)

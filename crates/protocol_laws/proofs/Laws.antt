@@ -5,13 +5,13 @@ use Rattle.event_log.specs.Entries.{Entry, Released, main_attempt}
 use Rattle.event_log.specs.Rules.{Setting}
 use Rattle.event_log.proofs.Growing.{entries_have_their_needs}
 use Rattle.holding_steps.specs.of_protocol.Answers.{answer, logged, whole_after}
-use Rattle.holding_steps.specs.of_protocol.Whole.{Whole, first_whole}
+use Rattle.holding_steps.specs.of_protocol.Cluster.{ClusterState, first_whole}
 use Rattle.holding_steps.specs.of_holding.Past.{Begun}
 use Rattle.holding_steps.proofs.Keeping.{steps_keep}
 use Rattle.protocol_legal.specs.Whole.{setting_of}
 use Rattle.protocol_legal.proofs.FrameHolds.{steps_stay_legal}
 use Rattle.holding_steps.proofs.of_numbered.Places.{counted}
-use Rattle.holding_steps.specs.of_protocol.Jobs.{Given}
+use Rattle.holding_steps.specs.of_protocol.Jobs.{JobRecord}
 use Rattle.protocol_laws.specs.Sound.{IsSound, JobsAreOut}
 use Rattle.protocol_laws.specs.Coming.{AllRight, all_after, log_after}
 use Rattle.protocol_laws.specs.Law.{EventsKeepSound, NothingHeldIsReleased, OpeningIsSound, ProtocolStaysLegal, SoundIsLegal}
@@ -21,7 +21,7 @@ use Rattle.protocol_owed.specs.Runs.{Handing}
 pub opening_is_sound : OpeningIsSound
 opening_is_sound s slots some = record { between = steps_stay_legal.opens s slots some; past = Begun main_attempt 1 ∷ []; held = steps_keep.first s.nodes slots; jobs = none_out }
   where
-    nothing : (g : Given) → None ≡ Some g → ⊥
+    nothing : (g : JobRecord) → None ≡ Some g → ⊥
     nothing g e = cc
 
     none_out : JobsAreOut (first_whole s.nodes slots)
@@ -33,7 +33,7 @@ event_keeps_sound s apart log c e seat handed sound right = event_stays s apart 
 pub sound_is_legal : SoundIsLegal
 sound_is_legal s log c sound = sound.between.legal
 
-events_stay : (s : Setting) → KeepsMainApart s.script → (log : List Entry) (c : Whole) (xs : List Handing) → IsSound s log c → AllRight s c xs → IsSound s (log_after log c xs) (all_after c xs)
+events_stay : (s : Setting) → KeepsMainApart s.script → (log : List Entry) (c : ClusterState) (xs : List Handing) → IsSound s log c → AllRight s c xs → IsSound s (log_after log c xs) (all_after c xs)
 events_stay s apart log c [] sound right = sound
 events_stay s apart log c (x ∷ xs) sound right =
     events_stay s apart (log ++ logged x.event x.seat (answer c x.event x.handed)) (whole_after c (answer c x.event x.handed)) xs

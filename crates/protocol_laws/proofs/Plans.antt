@@ -22,12 +22,12 @@ use Rattle.holding_steps.specs.of_protocol.Numbered.{item_at}
 use Rattle.holding_steps.specs.of_protocol.Recovery.{arguments_by, is_lost_at, task_for}
 use Rattle.holding_steps.specs.of_protocol.Sets.{object_id}
 use Rattle.holding_steps.specs.of_protocol.Steps.{object_at}
-use Rattle.holding_steps.specs.of_protocol.Tables.{Beside, ByTask, Maker, Object, OwnTask, WasPut, Worker, task_by, task_in, task_of}
-use Rattle.holding_steps.specs.of_protocol.Whole.{Whole, here, worker_at}
-use Rattle.protocol_legal.specs.Knows.{IsResultOf, KnowsMaker, KnowsObject, KnowsTask}
+use Rattle.holding_steps.specs.of_protocol.Tables.{Beside, ByTask, ObjectSource, Object, OwnTask, WasPut, Worker, task_by, task_in, task_of}
+use Rattle.holding_steps.specs.of_protocol.Cluster.{ClusterState, here, worker_at}
+use Rattle.protocol_legal.specs.Knows.{IsResultOf, KnowsSource, KnowsObject, KnowsTask}
 use Rattle.protocol_legal.specs.Past.{Past, past}
 use Rattle.protocol_legal.specs.Whole.{setting_of}
-use Rattle.protocol_owed.proofs.Letters.{among-append_cases, among-nothing}
+use Rattle.protocol_owed.proofs.Envelopes.{among-append_cases, among-nothing}
 use Rattle.holding_steps.proofs.of_meaning_laws.LogLaw.{legal_logs_read}
 use Rattle.protocol_laws.specs.Plans.{PlansHavePremises}
 use Rattle.protocol_laws.specs.Sound.{IsSound}
@@ -149,7 +149,7 @@ in_birth P (Task f args depth retries others) h o i = in_arguments P args h o i
 
 -- ---- in a sound run
 
-module _ (s : Setting) (log : List Entry) (c : Whole) (sound : IsSound s log c) (w : ℕ) (x : Worker) (node : Node) (at : worker_at c w ≡ Some x)
+module _ (s : Setting) (log : List Entry) (c : ClusterState) (sound : IsSound s log c) (w : ℕ) (x : Worker) (node : Node) (at : worker_at c w ≡ Some x)
     (live : x.is_live ≡ true) where
   legal : Legal (setting_of s c) log
   legal = sound.between.legal
@@ -173,34 +173,34 @@ module _ (s : Setting) (log : List Entry) (c : Whole) (sound : IsSound s log c) 
   abbrev p : Past
   p = past log sound.between.asked
 
-  knows_maker : (k : ℕ) (z : Object) → item_at x.objects k ≡ Some z → (m : Maker) → z.maker ≡ m → KnowsMaker p x.node x.objects (object_id w k) z m
-  knows_maker k z there m e =
-      subst (KnowsMaker p x.node x.objects (object_id w k) z) e ((sound.between.knows.workers w x at live).objects k z there).maker
+  knows_source : (k : ℕ) (z : Object) → item_at x.objects k ≡ Some z → (m : ObjectSource) → z.source ≡ m → KnowsSource p x.node x.objects (object_id w k) z m
+  knows_source k z there m e =
+      subst (KnowsSource p x.node x.objects (object_id w k) z) e ((sound.between.knows.workers w x at live).objects k z there).source
 
   -- what the task is made from that stands with the object of that serial
   by_task : (k : ℕ) (r : Option Object) → item_at x.objects k ≡ r → (task : OwnTask) → task_of r ≡ Some task → (o : Id) → o.owner ≡ w →
       Among o (dereferenced_in task.spec) → o.serial < k
   by_task k None there task e o own i = absurd (cc)
-  by_task k (Some z) there task e o own i = by_its z.maker refl e
+  by_task k (Some z) there task e o own i = by_its z.source refl e
     where
-      by_its : (m : Maker) → z.maker ≡ m → task_in m ≡ Some task → o.serial < k
+      by_its : (m : ObjectSource) → z.source ≡ m → task_in m ≡ Some task → o.serial < k
       by_its WasPut f g = absurd (cc)
       by_its (Beside n) f g = absurd (cc)
       by_its (ByTask own_task) f g =
           let same : own_task ≡ task = some_is own_task task g in
           let q : KnowsTask p (object_id w k) x.objects own_task × IsResultOf p x.objects (object_id w k) z k own_task =
-          knows_maker k z there (ByTask own_task) f in
+          knows_source k z there (ByTask own_task) f in
           let spec : birth_at (births log) (object_id w k) ≡ Some task.spec =
           subst (λ (d : OwnTask). birth_at (births log) (object_id w k) ≡ Some d.spec) same q.0.spec in
           in_birth (IsOlder (object_id w k)) task.spec (named k task.spec spec) o i own
 
-  by_maker : (k : ℕ) (z : Object) → item_at x.objects k ≡ Some z → (o : Id) → o.owner ≡ w → (m : Maker) → z.maker ≡ m →
+  by_source : (k : ℕ) (z : Object) → item_at x.objects k ≡ Some z → (o : Id) → o.owner ≡ w → (m : ObjectSource) → z.source ≡ m →
       Among o (arguments_by (task_by x.objects m)) → o.serial < k
-  by_maker k z there o own WasPut e i = absurd (among-nothing o i)
-  by_maker k z there o own (ByTask task) e i = by_task k (Some z) there task (ap task_in e) o own i
-  by_maker k z there o own (Beside n) e i =
+  by_source k z there o own WasPut e i = absurd (among-nothing o i)
+  by_source k z there o own (ByTask task) e i = by_task k (Some z) there task (ap task_in e) o own i
+  by_source k z there o own (Beside n) e i =
       let q : (task : OwnTask) × (task_of (item_at x.objects n) ≡ Some task) × IsResultOf p x.objects (object_id w k) z n task =
-      knows_maker k z there (Beside n) e in
+      knows_source k z there (Beside n) e in
       let first : o.serial < n = by_task n (item_at x.objects n) refl q.0 q.1 o own (subst (λ r. Among o (arguments_by r)) q.1 i) in
       let row : IsResultOf p x.objects (object_id w k) z n q.0 = q.2 in
       let serial : k ≡ n + row.0 = row.2 in
@@ -209,7 +209,7 @@ module _ (s : Setting) (log : List Entry) (c : Whole) (sound : IsSound s log c) 
   by_object : (k : ℕ) (o : Id) → o.owner ≡ w → (r : Option Object) → item_at x.objects k ≡ r →
       Among o (arguments_by (task_for (here c w x node) r)) → o.serial < k
   by_object k o own None e i = absurd (among-nothing o i)
-  by_object k o own (Some z) e i = by_maker k z e o own z.maker refl i
+  by_object k o own (Some z) e i = by_source k z e o own z.source refl i
 
   older : AreOlder (here c w x node)
   older k o lost = by_object k o (own_lost o lost.lost) (item_at x.objects k) refl lost.argument

@@ -15,16 +15,16 @@ use Rattle.holding_steps.specs.of_protocol.Numbered.{item_at}
 use Rattle.holding_steps.specs.of_protocol.Sets.{object_id}
 use Rattle.holding_steps.specs.of_protocol.Messages.{Message, Push, TheWorker}
 use Rattle.holding_steps.specs.of_protocol.Nodes.{Node}
-use Rattle.holding_steps.specs.of_protocol.Tables.{RunsOn, Maker, WasPut, Beside, ByTask, Object, OwnTask, Worker, task_in, task_of}
-use Rattle.holding_steps.specs.of_protocol.Steps.{Here, own_object}
-use Rattle.holding_steps.specs.of_protocol.Whole.{Whole, here, node_at, worker_at}
+use Rattle.holding_steps.specs.of_protocol.Tables.{RunsOn, ObjectSource, WasPut, Beside, ByTask, Object, OwnTask, Worker, task_in, task_of}
+use Rattle.holding_steps.specs.of_protocol.Steps.{WorkerContext, own_object}
+use Rattle.holding_steps.specs.of_protocol.Cluster.{ClusterState, here, node_at, worker_at}
 use Rattle.holding_steps.specs.of_holding.Past.{Fact, Killed, Has}
 use Rattle.holding_steps.specs.Clauses.{MessageTrue}
 use Rattle.holding_steps.specs.Landing.{DeadOn, IsUntouched, RunsBegun}
 use Rattle.holding_steps.specs.Whole.{WholeTrue}
 use Rattle.holding_steps.proofs.Answering.{untouched_idle}
 use Rattle.protocol_legal.specs.Past.{past}
-use Rattle.protocol_legal.specs.Knows.{KnowsMaker, KnowsObject, KnowsProgress, KnowsTask, KnowsWorker}
+use Rattle.protocol_legal.specs.Knows.{KnowsSource, KnowsObject, KnowsProgress, KnowsTask, KnowsWorker}
 use Rattle.protocol_legal.specs.Whole.{Between, setting_of}
 use Rattle.protocol_legal.proofs.FrameIn.{any_join}
 use Rattle.protocol_legal.proofs.FrameEnters.{accepts_in}
@@ -45,7 +45,7 @@ pub births_in : (log : List Entry) (e : Event) (seat : ℕ) → births (log ++ I
 births_in log e seat = births_push log (In e seat) ∙ append-nil (births log)
 
 -- a refused event
-pub refused_true : (log : List Entry) (facts : List Fact) (c : Whole) (e : Event) (seat : ℕ) (code : Refusal) → WholeTrue log facts c → WholeTrue (log ++ In e seat ∷ Refused code ∷ []) facts c
+pub refused_true : (log : List Entry) (facts : List Fact) (c : ClusterState) (e : Event) (seat : ℕ) (code : Refusal) → WholeTrue log facts c → WholeTrue (log ++ In e seat ∷ Refused code ∷ []) facts c
 refused_true log facts c e seat code t = record {
   joined = past_grows.refused log facts e seat code t.joined;
   workers = t.workers;
@@ -57,13 +57,13 @@ refused_true log facts c e seat code t = record {
   stores = t.stores;
 }
 
-module _ (s : Setting) (log : List Entry) (c : Whole) (b : Between s log c) where
+module _ (s : Setting) (log : List Entry) (c : ClusterState) (b : Between s log c) where
   -- a worker of the table that the event kills
   pub worker_killed_in : (e : Event) (seat v : ℕ) (x : Worker) → worker_at c v ≡ Some x → kills v x.node e ≡ true → is_killed v (log ++ In e seat ∷ []) ≡ true
   worker_killed_in e seat v x at k = killed_in log e seat v x.node (home_of_worker s log c b v x at) k
 
   module _ (facts : List Fact) (t : WholeTrue log facts c) (w : ℕ) (x : Worker) (node : Node) (at : worker_at c w ≡ Some x) (live : x.is_live ≡ true) where
-    abbrev h : Here
+    abbrev h : WorkerContext
     h = here c w x node
 
     known : KnowsWorker (setting_of s c) (past log b.asked) w x
@@ -76,10 +76,10 @@ module _ (s : Setting) (log : List Entry) (c : Whole) (b : Between s log c) wher
       pub runs : worker_of (attempt (object_id w k) task.number) log ≡ Some v
       pub home : node_of v log ≡ Some n
 
-    runs_as : (k v n : ℕ) (task : OwnTask) (y : Object) → item_at x.objects k ≡ Some y → y.maker ≡ ByTask task → task.progress ≡ RunsOn v n → IsRunning k v n task
+    runs_as : (k v n : ℕ) (task : OwnTask) (y : Object) → item_at x.objects k ≡ Some y → y.source ≡ ByTask task → task.progress ≡ RunsOn v n → IsRunning k v n task
     runs_as k v n task y i m p =
         let ko : KnowsObject (past log b.asked) x (object_id w k) y = known.objects k y i in
-        let kt : KnowsTask (past log b.asked) (object_id w k) x.objects task = (subst (KnowsMaker (past log b.asked) x.node x.objects (object_id w k) y) m ko.maker).0 in
+        let kt : KnowsTask (past log b.asked) (object_id w k) x.objects task = (subst (KnowsSource (past log b.asked) x.node x.objects (object_id w k) y) m ko.source).0 in
         let kp : KnowsProgress (past log b.asked) (object_id w k) task (RunsOn v n) = subst (KnowsProgress (past log b.asked) (object_id w k) task) p kt.progress in
         record { runs = ap (λ ws. slice_get ws task.number) kt.begun ∙ kp.0.runs; home = kp.0.home }
 
@@ -89,14 +89,14 @@ module _ (s : Setting) (log : List Entry) (c : Whole) (b : Between s log c) wher
         same : (u : OwnTask) → Some u ≡ Some task → u ≡ task
         same u i = cc
 
-        by_maker : (y : Object) → item_at x.objects k ≡ Some y → (m : Maker) → y.maker ≡ m → task_in m ≡ Some task → IsRunning k v n task
-        by_maker y i WasPut m j = absurd (cc)
-        by_maker y i (Beside u) m j = absurd (cc)
-        by_maker y i (ByTask u) m j = runs_as k v n task y i (m ∙ ap ByTask (same u j)) p
+        by_source : (y : Object) → item_at x.objects k ≡ Some y → (m : ObjectSource) → y.source ≡ m → task_in m ≡ Some task → IsRunning k v n task
+        by_source y i WasPut m j = absurd (cc)
+        by_source y i (Beside u) m j = absurd (cc)
+        by_source y i (ByTask u) m j = runs_as k v n task y i (m ∙ ap ByTask (same u j)) p
 
         by_object : (o : Option Object) → item_at x.objects k ≡ o → task_of o ≡ Some task → IsRunning k v n task
         by_object None i j = absurd (cc)
-        by_object (Some y) i j = by_maker y i y.maker refl j
+        by_object (Some y) i j = by_source y i y.source refl j
 
     pub runs_begun : RunsBegun facts h
     runs_begun k v n task e p = t.joined.tells.runs (attempt (object_id w k) task.number) v (is_running k v n task e p).runs

@@ -14,13 +14,13 @@ use Rattle.event_log.specs.Entries.{Refusal, Pinned, NoCopy, NoWorker, NotReady,
 use Rattle.event_log.specs.Events.{accepted_events, from_one, has_job_out, is_committed, is_killed, is_live, joins, kills, node_is_killed, node_lives, node_of, on_node, worker_of_job, worker_lives}
 use Rattle.event_log.specs.Rules.{Setting}
 use Rattle.event_log.proofs.CauseLaws.{as_shown, as_unseen, no_job, no_worker, not_ready}
-use Rattle.holding_steps.specs.of_protocol.Jobs.{Given, Handed}
-use Rattle.holding_steps.specs.of_protocol.Messages.{Letter, goes_to_by}
+use Rattle.holding_steps.specs.of_protocol.Jobs.{JobRecord, CommitInput}
+use Rattle.holding_steps.specs.of_protocol.Messages.{Envelope, goes_to_by}
 use Rattle.holding_steps.specs.of_protocol.Nodes.{Node}
 use Rattle.holding_steps.specs.of_protocol.Numbered.{item_at}
 use Rattle.holding_steps.specs.of_protocol.Stores.{Store, evict_refusal, is_of, lose_refusal}
 use Rattle.holding_steps.specs.of_protocol.Tables.{Worker}
-use Rattle.holding_steps.specs.of_protocol.Whole.{Whole, node_at, worker_at}
+use Rattle.holding_steps.specs.of_protocol.Cluster.{ClusterState, node_at, worker_at}
 use Rattle.holding_steps.specs.of_protocol.Events.{is_live_node, is_live_worker}
 use Rattle.holding_steps.specs.of_protocol.Refusals as tables
 use Rattle.holding_steps.specs.of_protocol.Refusals.{commit_refusal, is_dead_node, is_dead_worker, is_of_job, is_out_by, is_ready, is_ready_on, or_refusal, refusal, store_refusal}
@@ -77,7 +77,7 @@ item_some (x ∷ xs) (suc (suc i)) h k = item_some xs (suc i) (omega arith) (ome
 
 -- ---- what the tables say of the living and the dead is what the log says
 
-module _ (s : Setting) (log : List Entry) (c : Whole) (b : Between s log c) where
+module _ (s : Setting) (log : List Entry) (c : ClusterState) (b : Between s log c) where
   abbrev pub S : Setting
   S = setting_of s c
 
@@ -206,7 +206,7 @@ module _ (s : Setting) (log : List Entry) (c : Whole) (b : Between s log c) wher
   deliver_refused m code h = let k = one (is_some (item_at c.network m)) NoMessage code h in
       is_code (Deliver m) NoMessage code k.1 (as_shown S log (Deliver m) NoMessage false (ap (λ t. causes.unless t NoMessage None) (none (item_at c.network m) k.0)))
     where
-      none : (o : Option Letter) → is_some o ≡ false → is_some (goes_to_by o) ≡ false
+      none : (o : Option Envelope) → is_some o ≡ false → is_some (goes_to_by o) ≡ false
       none None e = refl
       none (Some l) e = absurd (cc)
 
@@ -251,16 +251,16 @@ module _ (s : Setting) (log : List Entry) (c : Whole) (b : Between s log c) wher
   -- ---- commits
 
   -- what the log says of a job of the table
-  pub claimed_as : (j : ℕ) (g : Given) → item_at c.jobs j ≡ Some g → worker_of_job j log ≡ Some g.worker
-  claimed_as j g e = ap (λ (ws : List ℕ). from_one ws j) b.knows.claims ∙ from_one_of (λ (i : Given). i.worker) c.jobs j g e
+  pub claimed_as : (j : ℕ) (g : JobRecord) → item_at c.jobs j ≡ Some g → worker_of_job j log ≡ Some g.worker
+  claimed_as j g e = ap (λ (ws : List ℕ). from_one ws j) b.knows.claims ∙ from_one_of (λ (i : JobRecord). i.worker) c.jobs j g e
 
-  shown_job : (j : ℕ) (g : Given) → item_at c.jobs j ≡ Some g → g.is_committed ≡ false → shown S log true (Commit j) ≡ causes.unless (is_live_worker (worker_at c g.worker)) Stale None
+  shown_job : (j : ℕ) (g : JobRecord) → item_at c.jobs j ≡ Some g → g.is_committed ≡ false → shown S log true (Commit j) ≡ causes.unless (is_live_worker (worker_at c g.worker)) Stale None
   shown_job j g e fresh =
       ap (λ o. causes.unless (is_some o) NoJob (causes.unless (not (is_committed j log)) NoJob (causes.unless (worker_lives o log) Stale None))) (claimed_as j g e)
       ∙ ap (λ t. causes.unless (not t) NoJob (causes.unless (is_live g.worker log) Stale None)) (b.knows.commits j ∙ ap committed_in e ∙ fresh)
       ∙ ap (λ t. causes.unless t Stale None) (lives_as g.worker)
 
-  commit_refused : (j : ℕ) (code : Refusal) (handed : Handed) (o : Option Given) → item_at c.jobs j ≡ o → commit_refusal c j handed o ≡ Some code → IsRefusal S log (Commit j) code
+  commit_refused : (j : ℕ) (code : Refusal) (handed : CommitInput) (o : Option JobRecord) → item_at c.jobs j ≡ o → commit_refusal c j handed o ≡ Some code → IsRefusal S log (Commit j) code
   commit_refused j code handed None e h = is_code (Commit j) NoJob code (number h) (no_job S log j)
     where
       number : Some NoJob ≡ Some code → code ≡ NoJob
@@ -277,7 +277,7 @@ module _ (s : Setting) (log : List Entry) (c : Whole) (b : Between s log c) wher
 
   -- ---- any event
 
-  pub refused_for_cause : (e : Event) (handed : Handed) (code : Refusal) → refusal c e handed ≡ Some code → IsRefusal S log e code
+  pub refused_for_cause : (e : Event) (handed : CommitInput) (code : Refusal) → refusal c e handed ≡ Some code → IsRefusal S log e code
   refused_for_cause (Claim w) handed code h = claim_refused w code h
   refused_for_cause (Commit j) handed code h = commit_refused j code handed (item_at c.jobs j) refl h
   refused_for_cause (Deliver m) handed code h = deliver_refused m code h
@@ -295,7 +295,7 @@ module _ (s : Setting) (log : List Entry) (c : Whole) (b : Between s log c) wher
   live_there : (w : ℕ) → tables.no_worker c w ≡ None → is_live w log ≡ true
   live_there w h = lives_as w ∙ unless_none (is_live_worker (worker_at c w)) NoWorker h
 
-  commit_limited : (j : ℕ) (handed : Handed) (o : Option Given) → item_at c.jobs j ≡ o → commit_refusal c j handed o ≡ None → IsRefusal S log (Commit j) Limit
+  commit_limited : (j : ℕ) (handed : CommitInput) (o : Option JobRecord) → item_at c.jobs j ≡ o → commit_refusal c j handed o ≡ None → IsRefusal S log (Commit j) Limit
   commit_limited j handed None e h = absurd (cc)
   commit_limited j handed (Some g) e h =
       let p = or_none (tables.unless (not g.is_committed && is_of_job handed && is_out_by (worker_at c g.worker) j) NoJob) (tables.unless (is_live_worker (worker_at c g.worker)) Stale) h in
@@ -318,14 +318,14 @@ module _ (s : Setting) (log : List Entry) (c : Whole) (b : Between s log c) wher
   store_node_lives n f h = node_lives_as n ∙ store_lives n f h
 
   -- an event that nothing refuses, but that would pass a limit; a claimer has no job that is out
-  pub limited_for_cause : (e : Event) (handed : Handed) → refusal c e handed ≡ None → ((w : ℕ) → e ≡ Claim w → has_job_out w log ≡ false) → IsRefusal S log e Limit
+  pub limited_for_cause : (e : Event) (handed : CommitInput) → refusal c e handed ≡ None → ((w : ℕ) → e ≡ Claim w → has_job_out w log ≡ false) → IsRefusal S log e Limit
   limited_for_cause (Claim w) handed h idle =
       let p = or_none (tables.no_worker c w) (tables.unless (is_ready c w) NotReady) h in
       as_unseen S log (Claim w) Limit false (ap (λ t. causes.unless t NoWorker (causes.unless (not (has_job_out w log)) NotReady None)) (live_there w p.0) ∙ ap (λ t. causes.unless (not t) NotReady None) (idle w refl)) (1, refl)
   limited_for_cause (Commit j) handed h idle = commit_limited j handed (item_at c.jobs j) refl h
   limited_for_cause (Deliver m) handed h idle = as_unseen S log (Deliver m) Limit false (ap (λ t. causes.unless t NoMessage None) (some (item_at c.network m) (unless_none (is_some (item_at c.network m)) NoMessage h))) (1, refl)
     where
-      some : (o : Option Letter) → is_some o ≡ true → is_some (goes_to_by o) ≡ true
+      some : (o : Option Envelope) → is_some o ≡ true → is_some (goes_to_by o) ≡ true
       some None e = absurd (cc)
       some (Some l) e = refl
   limited_for_cause (Tick w) handed h idle = as_unseen S log (Tick w) Limit false (ap (λ t. causes.unless t NoWorker None) (live_there w h)) (0, refl)

@@ -14,15 +14,15 @@ use Rattle.event_log.specs.Events.{from_one, has_job_out, is_committed, is_kille
 use Rattle.event_log.specs.Rules.{Setting}
 use Rattle.holding_steps.specs.of_protocol.Answers.{Refuses, answer, decided, given_out, takes}
 use Rattle.holding_steps.specs.of_protocol.Events.{happens, is_live_node, is_live_worker}
-use Rattle.holding_steps.specs.of_protocol.Jobs.{Given, Handed}
-use Rattle.holding_steps.specs.of_protocol.Messages.{Letter, goes_to_by}
+use Rattle.holding_steps.specs.of_protocol.Jobs.{JobRecord, CommitInput}
+use Rattle.holding_steps.specs.of_protocol.Messages.{Envelope, goes_to_by}
 use Rattle.holding_steps.specs.of_protocol.Nodes.{Node}
 use Rattle.holding_steps.specs.of_protocol.Numbered.{item_at}
 use Rattle.holding_steps.specs.of_protocol.Refusals as tables
 use Rattle.holding_steps.specs.of_protocol.Refusals.{commit_refusal, has_slot, is_dead_node, is_dead_worker, is_job, is_of_job, is_out_by, is_ready, is_ready_on, is_ready_run, is_within_limits, job_in_phase, job_in_run, or_refusal, refusal, store_refusal}
 use Rattle.holding_steps.specs.of_protocol.Stores.{Store, evict_refusal, is_of, lose_refusal}
 use Rattle.holding_steps.specs.of_protocol.Tables.{Worker}
-use Rattle.holding_steps.specs.of_protocol.Whole.{Whole, node_at, worker_at}
+use Rattle.holding_steps.specs.of_protocol.Cluster.{ClusterState, node_at, worker_at}
 use Rattle.protocol_legal.specs.Whole.{Between, committed_in, setting_of}
 use Rattle.protocol_legal.proofs.FrameNodesChange.{from_one_from}
 use Rattle.protocol_laws.specs.Shown.{AreAlike, IsAsShown, IsHidden, RefusalsAreAsShown, RefusalsAreShown, hidden, in_the_log, refusal_of}
@@ -94,13 +94,13 @@ lose_codes n o st code h = by_copy (list_any (is_of o) (st.primaries ++ st.secon
     by_copy true k = absurd (cc)
     by_copy false k = (1, k)
 
-is_sent : (o : Option Letter) → is_some (goes_to_by o) ≡ is_some o
+is_sent : (o : Option Envelope) → is_some (goes_to_by o) ≡ is_some o
 is_sent None = refl
 is_sent (Some l) = refl
 
 -- ---- a sound run
 
-module _ (s : Setting) (log : List Entry) (c : Whole) (sound : IsSound s log c) where
+module _ (s : Setting) (log : List Entry) (c : ClusterState) (sound : IsSound s log c) where
   abbrev S : Setting
   S = setting_of s c
 
@@ -121,7 +121,7 @@ module _ (s : Setting) (log : List Entry) (c : Whole) (sound : IsSound s log c) 
   out_by : (j : ℕ) (x : Worker) → IsOutAs j x → is_out_by (Some x) j ≡ true
   out_by j x p = ap (λ r. is_job (job_in_run r) j) p.1 ∙ ap (λ q. is_job (job_in_phase q) j) p.2 ∙ eq-eqb j j refl
 
-  out_there : (j : ℕ) (g : Given) → item_at c.jobs j ≡ Some g → g.is_committed ≡ false → is_out_by (worker_at c g.worker) j ≡ true
+  out_there : (j : ℕ) (g : JobRecord) → item_at c.jobs j ≡ Some g → g.is_committed ≡ false → is_out_by (worker_at c g.worker) j ≡ true
   out_there j g e fresh =
       let x = item_some c.workers g.worker (sound.jobs.named j g e) (sound.jobs.given j g e) in
       ap (λ o. is_out_by o j) x.1 ∙ out_by j x.0 (sound.jobs.out j g x.0 e fresh x.1)
@@ -129,16 +129,16 @@ module _ (s : Setting) (log : List Entry) (c : Whole) (sound : IsSound s log c) 
   never_given : (j : ℕ) → item_at c.jobs j ≡ None → is_some (worker_of_job j log) ≡ false
   never_given j none = go (worker_of_job j log) refl
     where
-      clash : (g : Given) → Some g ≡ None → ⊥
+      clash : (g : JobRecord) → Some g ≡ None → ⊥
       clash g e = cc
 
       go : (o : Option ℕ) → worker_of_job j log ≡ o → is_some o ≡ false
       go None e = refl
       go (Some w) e =
-          let r = from_one_from (λ (g : Given). g.worker) c.jobs j w (sym (ap (λ (ws : List ℕ). from_one ws j) b.knows.claims) ∙ e) in
+          let r = from_one_from (λ (g : JobRecord). g.worker) c.jobs j w (sym (ap (λ (ws : List ℕ). from_one ws j) b.knows.claims) ∙ e) in
           absurd (clash r.item (sym r.at ∙ none))
 
-  commit_shown : (j : ℕ) (handed : Handed) (o : Option Given) → item_at c.jobs j ≡ o → IsAsShown (Commit j) (shown S log (is_of_job handed) (Commit j)) (commit_refusal c j handed o)
+  commit_shown : (j : ℕ) (handed : CommitInput) (o : Option JobRecord) → item_at c.jobs j ≡ o → IsAsShown (Commit j) (shown S log (is_of_job handed) (Commit j)) (commit_refusal c j handed o)
   commit_shown j handed None e =
       subst (λ t. IsAsShown (Commit j) (causes.unless t NoJob (causes.unless (not (is_committed j log)) NoJob (causes.unless (is_of_job handed) NoJob (causes.unless (worker_lives (worker_of_job j log) log) Stale None)))) (Some NoJob))
       (sym (never_given j e)) refl
@@ -151,7 +151,7 @@ module _ (s : Setting) (log : List Entry) (c : Whole) (sound : IsSound s log c) 
           ap (λ o. causes.unless (is_some o) NoJob (causes.unless (not (is_committed j log)) NoJob (causes.unless (is_of_job handed) NoJob (causes.unless (worker_lives o log) Stale None)))) (claimed_as s log c b j g e)
           ∙ ap (λ t. causes.unless (not t) NoJob (causes.unless (is_of_job handed) NoJob (causes.unless (is_live g.worker log) Stale None))) (b.knows.commits j ∙ ap committed_in e)
 
-  refused_as_shown : (e : Event) (handed : Handed) → IsAsShown e (shown S log (is_of_job handed) e) (refusal c e handed)
+  refused_as_shown : (e : Event) (handed : CommitInput) → IsAsShown e (shown S log (is_of_job handed) e) (refusal c e handed)
   refused_as_shown (Claim w) handed = first (Claim w) (is_live w log) (is_live_worker (worker_at c w)) NoWorker _ (tables.unless (is_ready c w) NotReady) (lives w)
       (λ live. claim_by w (has_job_out w log) (is_ready c w) (idle w live))
   refused_as_shown (Commit j) handed = commit_shown j handed (item_at c.jobs j) refl
@@ -182,7 +182,7 @@ limit_is_hidden (Kill w) = (0, refl)
 limit_is_hidden (KillNode n) = (0, refl)
 limit_is_hidden Join = (0, refl)
 
-answered : (c : Whole) (e : Event) (handed : Handed) (shows o : Option Refusal) → IsAsShown e shows o → IsAsShown e shows (refusal_of (decided c e handed o))
+answered : (c : ClusterState) (e : Event) (handed : CommitInput) (shows o : Option Refusal) → IsAsShown e shows o → IsAsShown e shows (refusal_of (decided c e handed o))
 answered c e handed shows (Some code) h = h
 answered c e handed (Some code) None h = absurd (cc)
 answered c e handed None None h = by_limit (is_within_limits (happens c e handed).whole)

@@ -7,9 +7,9 @@ use Rattle.std.proofs.lemmas.Bool.{false≢true}
 use Rattle.meaning.specs.Values.{Birth, Id}
 use Rattle.event_log.specs.Entries.{Attempt}
 use Rattle.event_log.specs.Words.{same_attempt}
-use Rattle.holding_steps.specs.of_protocol.Messages.{Message, Party, TheNode, TheWorker, Ask, Give, Elsewhere, Wait, Back, Push, Finished, FinishedAck, Failed, Where, At, Gone, Fetch, CopyOf, Missing, Hold, HoldAck, Unhold}
-use Rattle.holding_steps.specs.of_protocol.Tables.{Phase, Ready, Out, Waits, HasEnded, HasFaulted, Fetching, Run, Worker, has_stopped}
-use Rattle.holding_steps.specs.of_protocol.Steps.{Here}
+use Rattle.holding_steps.specs.of_protocol.Messages.{Message, Endpoint, TheNode, TheWorker, Ask, Give, Elsewhere, Wait, Back, Push, Finished, FinishedAck, Failed, Where, At, Gone, Fetch, CopyOf, Missing, Hold, HoldAck, Unhold}
+use Rattle.holding_steps.specs.of_protocol.Tables.{Phase, Ready, Out, Waits, HasEnded, HasFaulted, Fetching, Execution, Worker, has_stopped}
+use Rattle.holding_steps.specs.of_protocol.Steps.{WorkerContext}
 use Rattle.holding_steps.specs.of_protocol.Runs.{begins_run, is_free, push_reached}
 use Rattle.holding_steps.specs.of_protocol.Deliveries.{reached}
 use Rattle.holding_steps.specs.of_protocol.Notices.{notice_node_step, notice_step}
@@ -31,12 +31,12 @@ waits_apart : (j : ℕ) (y : Id) (f : Option Fetching) → Out j ≡ Waits y f �
 waits_apart j y f e = cc
 
 module _ (j : ℕ) where
-  abbrev Stays : Here → Type 0
+  abbrev Stays : WorkerContext → Type 0
   Stays h = IsOutAs j h.worker
 
   -- of the worker's attempt, that it is out
-  phase_of : (x : Worker) (run : Run) → x.run ≡ Some run → IsOutAs j x → run.phase ≡ Out j
-  phase_of x run e p = ap (λ (r : Run). r.phase) (same_Some run p.0 (sym e ∙ p.1)) ∙ p.2
+  phase_of : (x : Worker) (run : Execution) → x.run ≡ Some run → IsOutAs j x → run.phase ≡ Out j
+  phase_of x run e p = ap (λ (r : Execution). r.phase) (same_Some run p.0 (sym e ∙ p.1)) ∙ p.2
 
   kept : IsKept (λ w a. Unit {0}) (λ a. Unit {0}) Stays
   kept = record {
@@ -64,20 +64,20 @@ module _ (j : ℕ) where
   abbrev Heard : Attempt → Type 0
   Heard a = Unit {0}
 
-  pub out_at_tick : (h : Here) → IsOutAs j h.worker → IsOutAs j (tick_step h).worker
+  pub out_at_tick : (h : WorkerContext) → IsOutAs j h.worker → IsOutAs j (tick_step h).worker
   out_at_tick h p = tick_step-kept Told Heard Stays kept h p
 
-  pub out_at_notice : (h : Here) (v : ℕ) → IsOutAs j h.worker → IsOutAs j (notice_step h v).worker
+  pub out_at_notice : (h : WorkerContext) (v : ℕ) → IsOutAs j h.worker → IsOutAs j (notice_step h v).worker
   out_at_notice h v p = notice_step-kept Told Heard Stays kept h v p
 
-  pub out_at_node_notice : (h : Here) (n : ℕ) → IsOutAs j h.worker → IsOutAs j (notice_node_step h n).worker
+  pub out_at_node_notice : (h : WorkerContext) (n : ℕ) → IsOutAs j h.worker → IsOutAs j (notice_node_step h n).worker
   out_at_node_notice h n p = notice_node_step-kept Told Heard Stays kept h n p
 
-  pub out_at_release : (h : Here) → IsOutAs j h.worker → IsOutAs j (release_step h).worker
+  pub out_at_release : (h : WorkerContext) → IsOutAs j h.worker → IsOutAs j (release_step h).worker
   out_at_release h p = release_step-kept Told Heard Stays kept h p
 
   -- a Push begins nothing on a worker whose attempt isn't over
-  pushed : (h : Here) (a : Attempt) (spec : Birth) → ((run : Run) → h.worker.run ≡ Some run → run.is_over ≡ true → has_stopped run.phase ≡ true) → IsOutAs j h.worker → IsOutAs j (push_reached h a spec).worker
+  pushed : (h : WorkerContext) (a : Attempt) (spec : Birth) → ((run : Execution) → h.worker.run ≡ Some run → run.is_over ≡ true → has_stopped run.phase ≡ true) → IsOutAs j h.worker → IsOutAs j (push_reached h a spec).worker
   pushed h a spec over p = subst (λ b. IsOutAs j (if b && not (list_any (λ c. same_attempt c a) h.worker.began) then begins_run h a spec else h).worker) (sym busy) p
     where
       going : (b : Bool) → p.0.is_over ≡ b → p.0.is_over ≡ false
@@ -87,7 +87,7 @@ module _ (j : ℕ) where
       busy : is_free h.worker.run ≡ false
       busy = ap is_free p.1 ∙ going p.0.is_over refl
 
-  heard : (h : Here) (w : ℕ) (m : Message) → ((run : Run) → h.worker.run ≡ Some run → run.is_over ≡ true → has_stopped run.phase ≡ true) → IsOutAs j h.worker → IsHeard Told Heard Stays kept h w m
+  heard : (h : WorkerContext) (w : ℕ) (m : Message) → ((run : Execution) → h.worker.run ≡ Some run → run.is_over ≡ true → has_stopped run.phase ≡ true) → IsOutAs j h.worker → IsHeard Told Heard Stays kept h w m
   heard h w (Push a spec) over p = pushed h a spec over p
   heard h w (Finished a n rs) over p = tt
   heard h w (Failed a f) over p = tt
@@ -107,9 +107,9 @@ module _ (j : ℕ) where
   heard h w (HoldAck e o) over p = tt
   heard h w (Unhold e o why) over p = tt
 
-  heard_from : (h : Here) (from : Party) (m : Message) → ((run : Run) → h.worker.run ≡ Some run → run.is_over ≡ true → has_stopped run.phase ≡ true) → IsOutAs j h.worker → IsHeardFrom Told Heard Stays kept h from m
+  heard_from : (h : WorkerContext) (from : Endpoint) (m : Message) → ((run : Execution) → h.worker.run ≡ Some run → run.is_over ≡ true → has_stopped run.phase ≡ true) → IsOutAs j h.worker → IsHeardFrom Told Heard Stays kept h from m
   heard_from h (TheWorker w) m over p = heard h w m over p
   heard_from h (TheNode n) m over p = tt
 
-  pub out_at_message : (h : Here) (from : Party) (m : Message) → ((run : Run) → h.worker.run ≡ Some run → run.is_over ≡ true → has_stopped run.phase ≡ true) → IsOutAs j h.worker → IsOutAs j (reached h from m).worker
+  pub out_at_message : (h : WorkerContext) (from : Endpoint) (m : Message) → ((run : Execution) → h.worker.run ≡ Some run → run.is_over ≡ true → has_stopped run.phase ≡ true) → IsOutAs j h.worker → IsOutAs j (reached h from m).worker
   out_at_message h from m over p = reached-kept Told Heard Stays kept h from m (heard_from h from m over p) p

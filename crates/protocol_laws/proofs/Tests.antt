@@ -2,8 +2,8 @@
 use Rattle.std.proofs.Common.{◌≡◌, ℕ, Bool, true, false, Option, Some, None, refl, ap}
 use Rattle.std.proofs.lemmas.Bool.{eqb-true, not-true}
 use Rattle.holding_steps.specs.of_protocol.Nodes.{Node}
-use Rattle.holding_steps.specs.of_protocol.Tables.{Run, Worker, Ready, Out, Phase, Waits, HasEnded, HasFaulted}
-use Rattle.holding_steps.specs.of_protocol.Whole.{Whole, node_at, worker_at}
+use Rattle.holding_steps.specs.of_protocol.Tables.{Execution, Worker, Ready, Out, Phase, Waits, HasEnded, HasFaulted}
+use Rattle.holding_steps.specs.of_protocol.Cluster.{ClusterState, node_at, worker_at}
 use Rattle.holding_steps.specs.of_protocol.Events.{is_live_node, is_live_worker}
 use Rattle.holding_steps.specs.of_protocol.Refusals.{is_dead_node, is_dead_worker, is_job, is_ready_phase, is_ready_run, job_in_phase, job_in_run, or_refusal, unless}
 use Rattle.event_log.specs.Entries.{Refusal}
@@ -18,17 +18,17 @@ unless_none false code h = absurd (cc)
 
 -- ---- the living and the dead
 
-pub record WorkerThere (c : Whole) (w : ℕ) (life : Bool) : Type 0 where
+pub record WorkerThere (c : ClusterState) (w : ℕ) (life : Bool) : Type 0 where
   pub worker : Worker
   pub at : worker_at c w ≡ Some worker
   pub lives : worker.is_live ≡ life
 
-pub record NodeThere (c : Whole) (n : ℕ) (life : Bool) : Type 0 where
+pub record NodeThere (c : ClusterState) (n : ℕ) (life : Bool) : Type 0 where
   pub node : Node
   pub at : node_at c n ≡ Some node
   pub lives : node.is_live ≡ life
 
-module _ (c : Whole) where
+module _ (c : ClusterState) where
   pub live_worker : (w : ℕ) → is_live_worker (worker_at c w) ≡ true → WorkerThere c w true
   live_worker w h = go (worker_at c w) refl h
     where
@@ -59,7 +59,7 @@ module _ (c : Whole) where
 
 -- ---- attempts
 
-pub ready_run : (o : Option Run) → is_ready_run o ≡ true → (run : Run) × (o ≡ Some run) × (run.phase ≡ Ready)
+pub ready_run : (o : Option Execution) → is_ready_run o ≡ true → (run : Execution) × (o ≡ Some run) × (run.phase ≡ Ready)
 ready_run None h = absurd (cc)
 ready_run (Some run) h = (run, refl, phase run.phase h)
   where
@@ -70,7 +70,7 @@ ready_run (Some run) h = (run, refl, phase run.phase h)
     phase (HasEnded d) g = absurd (cc)
     phase (HasFaulted d) g = absurd (cc)
 
-pub out_run : (o : Option Run) (j : ℕ) → is_job (job_in_run o) j ≡ true → (run : Run) × (o ≡ Some run) × (run.phase ≡ Out j)
+pub out_run : (o : Option Execution) (j : ℕ) → is_job (job_in_run o) j ≡ true → (run : Execution) × (o ≡ Some run) × (run.phase ≡ Out j)
 out_run None j h = absurd (cc)
 out_run (Some run) j h = (run, refl, phase run.phase h)
   where

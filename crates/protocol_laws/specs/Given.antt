@@ -10,9 +10,9 @@ use Rattle.meaning.specs.Meaning.{replay, run_birth}
 use Rattle.meaning.specs.Syntax.{Number, Script}
 use Rattle.meaning.specs.Values.{main_birth}
 use Rattle.holding_steps.specs.of_protocol.Answers.{Answer, Refuses, Takes, answer, job_of}
-use Rattle.holding_steps.specs.of_protocol.Jobs.{Handed, Job}
-use Rattle.holding_steps.specs.of_protocol.Tables.{Run, Worker}
-use Rattle.holding_steps.specs.of_protocol.Whole.{Whole, worker_at}
+use Rattle.holding_steps.specs.of_protocol.Jobs.{CommitInput, Job}
+use Rattle.holding_steps.specs.of_protocol.Tables.{Execution, Worker}
+use Rattle.holding_steps.specs.of_protocol.Cluster.{ClusterState, worker_at}
 use Rattle.protocol_legal.specs.Knows.{IsTask}
 use Rattle.protocol_laws.specs.Sound.{IsSound}
 
@@ -40,14 +40,14 @@ GivesGood script (Refuses code) = Unit {0}
 abbrev pub ClaimsGiveGoodJobs : Type 0
 ClaimsGiveGoodJobs =
     (s : Setting) → ScriptChecks s.script s.script → IsBirthOf s.script main_birth (Number ∷ []) →
-    (log : List Entry) (c : Whole) → IsSound s log c → (w : ℕ) (handed : Handed) → GivesGood s.script (answer c (Claim w) handed)
+    (log : List Entry) (c : ClusterState) → IsSound s log c → (w : ℕ) (handed : CommitInput) → GivesGood s.script (answer c (Claim w) handed)
 
 -- each attempt of a live worker of a sound run is one whose job may be run, whatever its number, where the script's functions are allowed, and
 -- main has no parameters and gives a number
 abbrev pub RunsAreGood : Type 0
 RunsAreGood =
     (s : Setting) → ScriptChecks s.script s.script → IsBirthOf s.script main_birth (Number ∷ []) →
-    (log : List Entry) (c : Whole) → IsSound s log c → (number w : ℕ) (x : Worker) (run : Run) → worker_at c w ≡ Some x → x.is_live ≡ true →
+    (log : List Entry) (c : ClusterState) → IsSound s log c → (number w : ℕ) (x : Worker) (run : Execution) → worker_at c w ≡ Some x → x.is_live ≡ true →
     x.run ≡ Some run → IsGood s.script (job_of number run)
 
 -- the job's answers begin what the log has of answers to its attempt
@@ -64,12 +64,13 @@ GivesOfLog log (Refuses code) = Unit {0}
 
 -- each claim of a sound run gives a job whose answers the log has
 abbrev pub ClaimsGiveJobsOfTheLog : Type 0
-ClaimsGiveJobsOfTheLog = (s : Setting) (log : List Entry) (c : Whole) → IsSound s log c → (w : ℕ) (handed : Handed) → GivesOfLog log (answer c (Claim w) handed)
+ClaimsGiveJobsOfTheLog = (s : Setting) (log : List Entry) (c : ClusterState) → IsSound s log c → (w : ℕ) (handed : CommitInput) →
+    GivesOfLog log (answer c (Claim w) handed)
 
 -- each attempt of a live worker of a sound run has the answers that the log has of answers to it
 abbrev pub RunsHaveTheLogsAnswers : Type 0
 RunsHaveTheLogsAnswers =
-    (s : Setting) (log : List Entry) (c : Whole) → IsSound s log c → (w : ℕ) (x : Worker) (run : Run) → worker_at c w ≡ Some x → x.is_live ≡ true →
+    (s : Setting) (log : List Entry) (c : ClusterState) → IsSound s log c → (w : ℕ) (x : Worker) (run : Execution) → worker_at c w ≡ Some x → x.is_live ≡ true →
     x.run ≡ Some run → answers_of run.attempt log ≡ run.answers
 
 -- a job whose answers the log has is such a job when the log has grown

@@ -6,9 +6,9 @@ use Rattle.event_log.specs.Entries.{Claim, Entry, Event, Evict, Lose}
 use Rattle.event_log.specs.Entries.{Refusal, Pinned, NoCopy, NoWorker, NotReady, NoJob, Stale, NoMessage, NotDead, NoNode, Limit}
 use Rattle.event_log.specs.Rules.{Setting}
 use Rattle.holding_steps.specs.of_protocol.Answers.{Answer, Refuses, Takes, answer}
-use Rattle.holding_steps.specs.of_protocol.Jobs.{Handed}
+use Rattle.holding_steps.specs.of_protocol.Jobs.{CommitInput}
 use Rattle.holding_steps.specs.of_protocol.Refusals.{is_of_job}
-use Rattle.holding_steps.specs.of_protocol.Whole.{Whole}
+use Rattle.holding_steps.specs.of_protocol.Cluster.{ClusterState}
 use Rattle.protocol_legal.specs.Whole.{setting_of}
 use Rattle.protocol_laws.specs.Sound.{IsSound}
 
@@ -37,7 +37,7 @@ IsAsShown e None refusal = IsHidden e refusal
 -- each event of a sound run is answered as its log shows, beside the network as it is and what is handed in
 abbrev pub RefusalsAreAsShown : Type 0
 RefusalsAreAsShown =
-    (s : Setting) (log : List Entry) (c : Whole) → IsSound s log c → (e : Event) (handed : Handed) →
+    (s : Setting) (log : List Entry) (c : ClusterState) → IsSound s log c → (e : Event) (handed : CommitInput) →
     IsAsShown e (shown (setting_of s c) log (is_of_job handed) e) (refusal_of (answer c e handed))
 
 -- no such live worker, no such job, its worker is dead, no such message, what the notice tells of isn't dead, no such live node
@@ -52,5 +52,5 @@ pub record AreAlike (why : Refusal) (refusal other : Option Refusal) : Type 0 wh
 -- each of these refusals is answered exactly where the log shows it
 abbrev pub RefusalsAreShown : Type 0
 RefusalsAreShown =
-    (s : Setting) (log : List Entry) (c : Whole) → IsSound s log c → (e : Event) (handed : Handed) → (why : Refusal) → Among why in_the_log →
+    (s : Setting) (log : List Entry) (c : ClusterState) → IsSound s log c → (e : Event) (handed : CommitInput) → (why : Refusal) → Among why in_the_log →
     AreAlike why (refusal_of (answer c e handed)) (shown (setting_of s c) log (is_of_job handed) e)

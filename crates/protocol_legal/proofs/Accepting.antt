@@ -16,9 +16,9 @@ use Rattle.kind_laws.specs.of_event_log.Rules.{AreUnspent, IsUnresolved, MayAcce
 use Rattle.kind_laws.proofs.of_event_log.WordLaws.{same_attempt-true}
 use Rattle.numbered.specs.of_protocol.Numbered.{item_at, changed_at}
 use Rattle.numbered.specs.of_protocol.Sets.{fault, has, object_id}
-use Rattle.numbered.specs.of_protocol.Tables.{Beside, Progress, AtRest, AskedAt, RunsOn, OwnTask, Maker, ByTask, WasPut, Object, Worker, first_by, is_pending_task, is_under_way, is_wanted, task_in, task_of, with_task, with_content, places_for}
+use Rattle.numbered.specs.of_protocol.Tables.{Beside, Progress, AtRest, AskedAt, RunsOn, OwnTask, ObjectSource, ByTask, WasPut, Object, Worker, first_by, is_pending_task, is_under_way, is_wanted, task_in, task_of, with_task, with_content, places_for}
 use Rattle.numbered.specs.of_protocol.Messages.{EndedResult}
-use Rattle.numbered.specs.of_protocol.Steps.{Here, logs, with_task_of}
+use Rattle.numbered.specs.of_protocol.Steps.{WorkerContext, logs, with_task_of}
 use Rattle.numbered.specs.of_protocol.Asking.{rests}
 use Rattle.numbered.specs.of_protocol.Ends.{accepts}
 use Rattle.protocol_legal.specs.Past.{Asking, Past}
@@ -28,7 +28,7 @@ use Rattle.kind_laws.specs.of_event_log.Holding.{HasId}
 use Rattle.protocol_legal.specs.Made.{AreSmallEnds, HaveTheirIds, IsWhollyEndedAt}
 use Rattle.protocol_legal.specs.Names.{NamesOf}
 use Rattle.protocol_legal.specs.Grows.{Grows}
-use Rattle.protocol_legal.specs.Knows.{listed, IsPartOf, IsResultOf, IsRow, IsWanted, KnowsProgress, KnowsMaker, KnowsObject, KnowsResult, KnowsTask, kept_until}
+use Rattle.protocol_legal.specs.Knows.{listed, IsPartOf, IsResultOf, IsRow, IsWanted, KnowsProgress, KnowsSource, KnowsObject, KnowsResult, KnowsTask, kept_until}
 use Rattle.protocol_legal.specs.During.{Frame, SoundHere}
 use Rattle.protocol_legal.proofs.Breaking.{among_none}
 use Rattle.protocol_legal.proofs.Numbers.{item-same, item-elsewhere}
@@ -75,7 +75,7 @@ wanted_is_healthy z e = go z.fault (and_parts (is_none z.fault) _ e).0
     go None f = refl
     go (Some v) f = absurd (cc)
 
-module _ (f : Frame) (asked : List Asking) (h : Here) (s : SoundHere f asked h) (k : ℕ) (task : OwnTask) (t : OwnTaskAt h k task) (pending : is_pending_task task ≡ true) where
+module _ (f : Frame) (asked : List Asking) (h : WorkerContext) (s : SoundHere f asked h) (k : ℕ) (task : OwnTask) (t : OwnTaskAt h k task) (pending : is_pending_task task ≡ true) where
   abbrev o : Id
   o = object_id h.me k
 
@@ -115,11 +115,11 @@ module _ (f : Frame) (asked : List Asking) (h : Here) (s : SoundHere f asked h) 
       )
 
   pub task_there : task_of (item_at h.worker.objects k) ≡ Some task
-  task_there = ap task_of t.there ∙ ap task_in t.maker
+  task_there = ap task_of t.there ∙ ap task_in t.source
 
   -- none of them is resolved because its retries are used up
-  spent_row : (z : Id) (part : Part) → z ≡ object_id h.me z.serial → part_at (births p.log) z ≡ Some part → part.born.object ≡ o → (v : Object) → v.fault ≡ Some (fault RetriesUsed z) → item_at h.worker.objects z.serial ≡ Some v → (m : Maker) →
-      KnowsMaker p h.worker.node h.worker.objects z v m → v.maker ≡ m → ⊥
+  spent_row : (z : Id) (part : Part) → z ≡ object_id h.me z.serial → part_at (births p.log) z ≡ Some part → part.born.object ≡ o → (v : Object) → v.fault ≡ Some (fault RetriesUsed z) → item_at h.worker.objects z.serial ≡ Some v → (m : ObjectSource) →
+      KnowsSource p h.worker.node h.worker.objects z v m → v.source ≡ m → ⊥
   spent_row z part own born first v e i WasPut km is =
       let same : part ≡ record { born = record { object = z; birth = Put km.value }; place = 0 } = let b = km.part in cc in
       let at : z.serial ≡ k = ap (λ (q : Id). q.serial) (sym (ap (λ (q : Part). q.born.object) same) ∙ first) in
@@ -179,7 +179,7 @@ module _ (f : Frame) (asked : List Asking) (h : Here) (s : SoundHere f asked h) 
       let end : next_serial z.owner (births p.log) ≡ length h.worker.objects + 1 = ap (λ w. next_serial w (births p.log)) (sym owner) ∙ s.knows.serial in
       let v = item_exists h.worker.objects z.serial (omega (arith, from, start, low)) (omega (arith, below, end)) in
       let ko : KnowsObject p h.worker z v.0 = subst (λ y. KnowsObject p h.worker y v.0) (sym own) (s.knows.objects z.serial v.0 v.1) in
-      spent_row z part own born first v.0 (resolved_so z v.0.fault ko.resolved a) v.1 v.0.maker ko.maker refl
+      spent_row z part own born first v.0 (resolved_so z v.0.fault ko.resolved a) v.1 v.0.source ko.source refl
 
   -- ---- its objects, and the table as the task comes to rest
 
@@ -205,7 +205,7 @@ module _ (f : Frame) (asked : List Asking) (h : Here) (s : SoundHere f asked h) 
       ]
 
   -- an object of another task stands elsewhere
-  pub not_here : (j : ℕ) (z : Object) → item_at h.worker.objects j ≡ Some z → (first_by j z.maker == k) ≡ false → (i : ℕ) → i < results → (j == (k + i)) ≡ false
+  pub not_here : (j : ℕ) (z : Object) → item_at h.worker.objects j ≡ Some z → (first_by j z.source == k) ≡ false → (i : ℕ) → i < results → (j == (k + i)) ≡ false
   not_here j z at d i l =
       at_test (λ b. (j == (k + i)) ≡ b → b ≡ false) (j == (k + i))
       (λ b e. let same = eqb-true j (k + i) e in
@@ -213,8 +213,8 @@ module _ (f : Frame) (asked : List Asking) (h : Here) (s : SoundHere f asked h) 
       let there : item_at h.worker.objects (k + i) ≡ Some z = ap (item_at h.worker.objects) (sym same) ∙ at in
       let found = row.there in
       let is : row.object ≡ z = cc in
-      let first : first_by j z.maker ≡ k = ap (λ n. first_by n z.maker) same ∙ ap (λ (v : Object). first_by (k + i) v.maker) (sym is) ∙ row.of in
-      let c : (first_by j z.maker == k) ≡ true = grind (arith, nat_tests, first) in
+      let first : first_by j z.source ≡ k = ap (λ n. first_by n z.source) same ∙ ap (λ (v : Object). first_by (k + i) v.source) (sym is) ∙ row.of in
+      let c : (first_by j z.source == k) ≡ true = grind (arith, nat_tests, first) in
       absurd (cc)) (λ b e. refl) refl
 
   pub not_first : (j : ℕ) → (j < k) ⊎ (k + results ≤ j) → (j == k) ≡ false
@@ -227,13 +227,13 @@ module _ (f : Frame) (asked : List Asking) (h : Here) (s : SoundHere f asked h) 
     pub within : place < results
     pub serial : j ≡ k + place
 
-  pub place_of : (j : ℕ) (z : Object) → item_at h.worker.objects j ≡ Some z → first_by j z.maker ≡ k → IsPlaceOf j
-  place_of j z at first = by_maker z.maker refl (s.knows.objects j z at).maker first
+  pub place_of : (j : ℕ) (z : Object) → item_at h.worker.objects j ≡ Some z → first_by j z.source ≡ k → IsPlaceOf j
+  place_of j z at first = by_source z.source refl (s.knows.objects j z at).source first
     where
-      by_maker : (n : Maker) → z.maker ≡ n → KnowsMaker p h.worker.node h.worker.objects (object_id h.me j) z n → first_by j n ≡ k → IsPlaceOf j
-      by_maker WasPut e km g = let e' : ◌≡◌ {A = ℕ} k (k + 0) = omega arith in record { place = 0; within = omega arith; serial = g ∙ e' }
-      by_maker (ByTask u) e km g = let e' : ◌≡◌ {A = ℕ} k (k + 0) = omega arith in record { place = 0; within = omega arith; serial = g ∙ e' }
-      by_maker (Beside n) e km g =
+      by_source : (n : ObjectSource) → z.source ≡ n → KnowsSource p h.worker.node h.worker.objects (object_id h.me j) z n → first_by j n ≡ k → IsPlaceOf j
+      by_source WasPut e km g = let e' : ◌≡◌ {A = ℕ} k (k + 0) = omega arith in record { place = 0; within = omega arith; serial = g ∙ e' }
+      by_source (ByTask u) e km g = let e' : ◌≡◌ {A = ℕ} k (k + 0) = omega arith in record { place = 0; within = omega arith; serial = g ∙ e' }
+      by_source (Beside n) e km g =
           let found : task_of (item_at h.worker.objects k) ≡ Some km.0 = ap (λ i. task_of (item_at h.worker.objects i)) (sym g) ∙ km.1 in
           let some = task_there in
           let is : km.0 ≡ task = cc in
@@ -243,7 +243,7 @@ module _ (f : Frame) (asked : List Asking) (h : Here) (s : SoundHere f asked h) 
   pub record RestedRow (i : ℕ) : Type 0 where
     pub old : Object
     pub before : item_at h.worker.objects (k + i) ≡ Some old
-    pub of : first_by (k + i) old.maker ≡ k
+    pub of : first_by (k + i) old.source ≡ k
     pub new : Object
     pub there : item_at rested (k + i) ≡ Some new
     pub bearer : new.bearer ≡ old.bearer
@@ -253,10 +253,10 @@ module _ (f : Frame) (asked : List Asking) (h : Here) (s : SoundHere f asked h) 
     pub kept : new.kept ≡ old.kept
     pub names : (log : List Entry) → NamesOf log (object_id h.me (k + i)) old → NamesOf log (object_id h.me (k + i)) new
     pub is_released : new.is_released ≡ old.is_released
-    pub first : first_by (k + i) new.maker ≡ k
+    pub first : first_by (k + i) new.source ≡ k
     pub released : old.is_released ≡ kt.released
-    pub at_first : ((k + i) == k) ≡ true → new.maker ≡ ByTask (rests task)
-    pub else_ : ((k + i) == k) ≡ false → new.maker ≡ old.maker
+    pub at_first : ((k + i) == k) ≡ true → new.source ≡ ByTask (rests task)
+    pub else_ : ((k + i) == k) ≡ false → new.source ≡ old.source
 
   pub rested_row : (i : ℕ) → i < results → RestedRow i
   rested_row i l =
@@ -302,7 +302,7 @@ module _ (f : Frame) (asked : List Asking) (h : Here) (s : SoundHere f asked h) 
       }) refl
 
   -- the result that the object was before
-  pub was_result : (j : ℕ) (z : Object) → item_at h.worker.objects j ≡ Some z → first_by j z.maker ≡ k → (n : Maker) → z.maker ≡ n → KnowsMaker p h.worker.node h.worker.objects (object_id h.me j) z n → IsResultOf p h.worker.objects (object_id h.me j) z k task
+  pub was_result : (j : ℕ) (z : Object) → item_at h.worker.objects j ≡ Some z → first_by j z.source ≡ k → (n : ObjectSource) → z.source ≡ n → KnowsSource p h.worker.node h.worker.objects (object_id h.me j) z n → IsResultOf p h.worker.objects (object_id h.me j) z k task
   was_result j z at first WasPut e km =
       let j_is : j ≡ k = sym (ap (first_by j) e) ∙ first in
       let found : task_of (item_at h.worker.objects k) ≡ None = ap (λ i. task_of (item_at h.worker.objects i)) (sym j_is) ∙ ap task_of at ∙ ap task_in e in
@@ -371,7 +371,7 @@ module _ (f : Frame) (asked : List Asking) (h : Here) (s : SoundHere f asked h) 
     abbrev ys : List Object
     ys = settled_rows rested k task.number m results rs
 
-    same : (j : ℕ) (z : Object) → item_at h.worker.objects j ≡ Some z → (first_by j z.maker == k) ≡ false → item_at ys j ≡ Some z
+    same : (j : ℕ) (z : Object) → item_at h.worker.objects j ≡ Some z → (first_by j z.source == k) ≡ false → item_at ys j ≡ Some z
     same j z at d =
         let out = outside j (not_here j z at d) in
         settled_out rested k task.number m results rs j out ∙ item-elsewhere h.worker.objects j k (with_task (rests task)) (not_first j out) ∙ at
@@ -450,12 +450,12 @@ module _ (f : Frame) (asked : List Asking) (h : Here) (s : SoundHere f asked h) 
     y = record h.worker { objects = ys }
 
     -- how the object is made then
-    maker_now : (j : ℕ) (z v : Object) → (j == k) ≡ false → (n : Maker) → z.maker ≡ n → first_by j n ≡ k → v.maker ≡ n → IsResultOf q ys (object_id h.me j) v k (rests task) → KnowsMaker q h.worker.node ys (object_id h.me j) v n
-    maker_now j z v d WasPut e first ev res = let c : (j == k) ≡ true = grind (arith, nat_tests, first) in absurd (cc)
-    maker_now j z v d (ByTask u) e first ev res = let c : (j == k) ≡ true = grind (arith, nat_tests, first) in absurd (cc)
-    maker_now j z v d (Beside n) e first ev res = (rests task, ap (λ i. task_of (item_at ys i)) first ∙ first_row, subst (λ i. IsResultOf q ys (object_id h.me j) v i (rests task)) (sym first) res)
+    source_now : (j : ℕ) (z v : Object) → (j == k) ≡ false → (n : ObjectSource) → z.source ≡ n → first_by j n ≡ k → v.source ≡ n → IsResultOf q ys (object_id h.me j) v k (rests task) → KnowsSource q h.worker.node ys (object_id h.me j) v n
+    source_now j z v d WasPut e first ev res = let c : (j == k) ≡ true = grind (arith, nat_tests, first) in absurd (cc)
+    source_now j z v d (ByTask u) e first ev res = let c : (j == k) ≡ true = grind (arith, nat_tests, first) in absurd (cc)
+    source_now j z v d (Beside n) e first ev res = (rests task, ap (λ i. task_of (item_at ys i)) first ∙ first_row, subst (λ i. IsResultOf q ys (object_id h.me j) v i (rests task)) (sym first) res)
 
-    group : (j : ℕ) (z v : Object) → item_at h.worker.objects j ≡ Some z → first_by j z.maker ≡ k → item_at ys j ≡ Some v → KnowsObject q y (object_id h.me j) v
+    group : (j : ℕ) (z v : Object) → item_at h.worker.objects j ≡ Some z → first_by j z.source ≡ k → item_at ys j ≡ Some v → KnowsObject q y (object_id h.me j) v
     group j z v at first atv =
         let pl = place_of j z at first in
         let row = rested_row pl.place pl.within in
@@ -470,8 +470,8 @@ module _ (f : Frame) (asked : List Asking) (h : Here) (s : SoundHere f asked h) 
         let bearer : v.bearer ≡ z.bearer = ap (λ (u : Object). u.bearer) v_is ∙ row.bearer ∙ ap (λ (u : Object). u.bearer) old_is in
         let faults : v.fault ≡ z.fault = ap (λ (u : Object). u.fault) v_is ∙ row.fault ∙ ap (λ (u : Object). u.fault) old_is in
         let release : v.is_released ≡ z.is_released = ap (λ (u : Object). u.is_released) v_is ∙ row.is_released ∙ ap (λ (u : Object). u.is_released) old_is in
-        let maker : v.maker ≡ row.new.maker = ap (λ (u : Object). u.maker) v_is in
-        let km = was_result j z at first z.maker refl ko.maker in
+        let source : v.source ≡ row.new.source = ap (λ (u : Object). u.source) v_is in
+        let km = was_result j z at first z.source refl ko.source in
         let place_is : pl.place ≡ km.0 = let a = pl.serial in let b = km.2 in omega (arith, a, b) in
         let its_there = (told km.0 km.1).there in
         let t_there = t.there in
@@ -479,19 +479,19 @@ module _ (f : Frame) (asked : List Asking) (h : Here) (s : SoundHere f asked h) 
         let res = result_of j z t.result.ids km row.new v (v_is ∙ ap (λ (r : EndedResult). with_content task.number m t.result.ids r.kept row.new) same_told) (row.is_released ∙ row.released ∙ kt.kept pending) in
         record {
           bearer = subst (λ b. Among b (Rattle.kind_laws.specs.of_event_log.Words.bearers_of (object_id h.me j) q.log)) (sym bearer) (word_grows p q way z.bearer (Rattle.kind_laws.specs.of_event_log.Words.bearer_in (object_id h.me j)) ko.bearer);
-          stopped = subst (λ b. Rattle.protocol_legal.specs.Knows.HasStopped q.log b ⊎ ((u : Rattle.numbered.specs.of_protocol.Tables.Run) × (h.worker.run ≡ Some u) × (u.attempt ≡ b))) (sym bearer) (kept_stop p q way h.worker ys z.bearer ko.stopped);
+          stopped = subst (λ b. Rattle.protocol_legal.specs.Knows.HasStopped q.log b ⊎ ((u : Rattle.numbered.specs.of_protocol.Tables.Execution) × (h.worker.run ≡ Some u) × (u.attempt ≡ b))) (sym bearer) (kept_stop p q way h.worker ys z.bearer ko.stopped);
           resolved = same_word p q way (resolved_in (object_id h.me j)) refl ∙ ko.resolved ∙ ap listed (sym faults);
           known = λ g e. way.faults g (ko.known g (sym faults ∙ e));
           released = same_word p q way (released_in (object_id h.me j)) refl ∙ ko.released ∙ ap (λ b. Rattle.protocol_legal.specs.Knows.once b (object_id h.me j)) (sym release);
-          maker =
-              at_test (λ b. (j == k) ≡ b → KnowsMaker q h.worker.node ys (object_id h.me j) v v.maker) (j == k)
+          source =
+              at_test (λ b. (j == k) ≡ b → KnowsSource q h.worker.node ys (object_id h.me j) v v.source) (j == k)
               (λ b _. let j_is = eqb-true j k b in
               let at_k : ((k + pl.place) == k) ≡ true = ap (λ n. n == k) (sym pl.serial) ∙ b in
-              subst (KnowsMaker q h.worker.node ys (object_id h.me j) v) (sym (maker ∙ row.at_first at_k))
+              subst (KnowsSource q h.worker.node ys (object_id h.me j) v) (sym (source ∙ row.at_first at_k))
               (subst (λ n. KnowsTask q (object_id h.me n) ys (rests task)) (sym j_is) task_now, subst (λ n. IsResultOf q ys (object_id h.me j) v n (rests task)) (sym j_is) res))
               (λ b _. let at_k : ((k + pl.place) == k) ≡ false = ap (λ n. n == k) (sym pl.serial) ∙ b in
-              let same_maker : v.maker ≡ z.maker = maker ∙ row.else_ at_k ∙ ap (λ (u : Object). u.maker) old_is in
-              subst (KnowsMaker q h.worker.node ys (object_id h.me j) v) (sym same_maker) (maker_now j z v b z.maker refl first same_maker res)) refl;
+              let same_source : v.source ≡ z.source = source ∙ row.else_ at_k ∙ ap (λ (u : Object). u.source) old_is in
+              subst (KnowsSource q h.worker.node ys (object_id h.me j) v) (sym same_source) (source_now j z v b z.source refl first same_source res)) refl;
           names = subst (NamesOf q.log (object_id h.me j)) (sym v_is) (names_now j t.result km.0 row.new km.3 (told_each (λ (r : EndedResult). AllByRecursion (λ i. HasId p.log o i) r.ids) rs pl.place t.result t.there names) (subst (λ i. NamesOf p.log (object_id h.me i) row.new) (sym pl.serial) (row.names p.log (subst (λ i. NamesOf p.log (object_id h.me i) row.old) pl.serial (subst (NamesOf p.log (object_id h.me j)) (sym old_is) ko.names)))));
         }
 

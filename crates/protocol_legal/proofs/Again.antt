@@ -12,8 +12,8 @@ use Rattle.kind_laws.specs.of_event_log.Words.{attempt, births, runs_of}
 use Rattle.kind_laws.specs.of_event_log.Breaks.{RetriesAreUsed}
 use Rattle.numbered.specs.of_protocol.Numbered.{item_at, changed_at}
 use Rattle.numbered.specs.of_protocol.Sets.{is_empty, object_id, retries_in}
-use Rattle.numbered.specs.of_protocol.Tables.{AskedAt, Beside, ByTask, Maker, Object, OwnTask, WasPut, first_by, is_lost, is_nowhere, is_pending, is_pending_by, is_pending_task, is_whole, may_try_again, task_by, task_of, with_task}
-use Rattle.numbered.specs.of_protocol.Steps.{Here}
+use Rattle.numbered.specs.of_protocol.Tables.{AskedAt, Beside, ByTask, ObjectSource, Object, OwnTask, WasPut, first_by, is_lost, is_nowhere, is_pending, is_pending_by, is_pending_task, is_whole, may_try_again, task_by, task_of, with_task}
+use Rattle.numbered.specs.of_protocol.Steps.{WorkerContext}
 use Rattle.numbered.specs.of_protocol.Asking.{next_attempt, requests}
 use Rattle.numbered.specs.of_protocol.Recovery.{remakes, remakes_by, remakes_one}
 use Rattle.protocol_legal.specs.Past.{Asking}
@@ -27,20 +27,20 @@ use Rattle.protocol_legal.proofs.Asking.{OwnTaskAt, known_task, next_sound}
 use Rattle.protocol_legal.proofs.Recovering.{LostHere, LostParts, LostResult, lost_parts, lost_result}
 
 -- an object without a copy, of a task that is under way or has a retry left
-pub record Fits (h : Here) (k : ℕ) : Type 0 where
+pub record Fits (h : WorkerContext) (k : ℕ) : Type 0 where
   pub object : Object
   pub there : item_at h.worker.objects k ≡ Some object
   pub bare : (is_whole object && is_nowhere object) ≡ true
   pub task : OwnTask
-  pub by : task_by h.worker.objects object.maker ≡ Some task
+  pub by : task_by h.worker.objects object.source ≡ Some task
   pub more : (is_pending_task task ≡ true) ⊎ (may_try_again task ≡ true)
 
-not_put : (m : Maker) (xs : List Object) (t : OwnTask) → m ≡ WasPut → task_by xs m ≡ Some t → ⊥
+not_put : (m : ObjectSource) (xs : List Object) (t : OwnTask) → m ≡ WasPut → task_by xs m ≡ Some t → ⊥
 not_put m xs t e g = let c : task_by xs m ≡ None = ap (task_by xs) e in absurd (cc)
 
 module _ (f : Frame) where
   -- a task with a retry left isn't spent
-  not_spent : (asked : List Asking) (h : Here) (s : SoundHere f asked h) (first : ℕ) (task : OwnTask) (at : OwnTaskAt h first task) (w n : ℕ) → IsBegun (now f asked h s) (object_id h.me first) task w n → may_try_again task ≡ true →
+  not_spent : (asked : List Asking) (h : WorkerContext) (s : SoundHere f asked h) (first : ℕ) (task : OwnTask) (at : OwnTaskAt h first task) (w n : ℕ) → IsBegun (now f asked h s) (object_id h.me first) task w n → may_try_again task ≡ true →
       IsSpent (now f asked h s).log (object_id h.me first) → ⊥
   not_spent asked h s first task at w n b more spent =
       let o = object_id h.me first in
@@ -60,7 +60,7 @@ module _ (f : Frame) where
       let less = more in
       absurd (grind (arith, nat_tests, equal, less))
 
-  asks_one : (asked : List Asking) (h : Here) (s : SoundHere f asked h) (k : ℕ) (l : LostHere h k) (r : LostResult (now f asked h s) h k l.object) → may_try_again r.task ≡ true → Sound f (requests h (object_id h.me r.first) (next_attempt r.task))
+  asks_one : (asked : List Asking) (h : WorkerContext) (s : SoundHere f asked h) (k : ℕ) (l : LostHere h k) (r : LostResult (now f asked h s) h k l.object) → may_try_again r.task ≡ true → Sound f (requests h (object_id h.me r.first) (next_attempt r.task))
   asks_one asked h s k l r more =
       let p = now f asked h s in
       let o = object_id h.me r.first in
@@ -76,7 +76,7 @@ module _ (f : Frame) where
         within = r.result.1;
         object = l.object;
         there = at';
-        first = ap (λ j. first_by j l.object.maker) (sym r.result.2) ∙ r.is_first;
+        first = ap (λ j. first_by j l.object.source) (sym r.result.2) ∙ r.is_first;
         wanted = ap (λ t. is_none t && is_nowhere l.object) parts.healthy ∙ ap (λ ps. is_empty ps && is_none l.object.kept) parts.nowhere ∙ ap is_none parts.unkept;
       } in
       let lost : IsLost p.log (attempt o r.task.number) = elim r.lost.gone [ inl i ↦ i | inr spent ↦ absurd (not_spent asked h s r.first r.task r.at r.lost.worker r.lost.node r.lost.begun more spent) ] in
@@ -84,21 +84,21 @@ module _ (f : Frame) where
 
   -- ---- the others fit still
 
-  module _ (h : Here) (first : ℕ) (task : OwnTask) (at : OwnTaskAt h first task) where
+  module _ (h : WorkerContext) (first : ℕ) (task : OwnTask) (at : OwnTaskAt h first task) where
     abbrev next : OwnTask
     next = record (next_attempt task) { progress = AskedAt 0 h.worker.node }
 
     abbrev ys : List Object
     ys = changed_at h.worker.objects first (with_task next)
 
-    abbrev then_ : Here
+    abbrev then_ : WorkerContext
     then_ = requests h (object_id h.me first) (next_attempt task)
 
     task_then : task_of (item_at ys first) ≡ Some next
     task_then = ap task_of (item-same h.worker.objects first (with_task next) at.object at.there)
 
     -- how an object is made then
-    by_then : (m : Maker) (t : OwnTask) → task_by h.worker.objects m ≡ Some t → ((is_pending_task t ≡ true) ⊎ (may_try_again t ≡ true)) → (u : OwnTask) × (task_by ys m ≡ Some u) × ((is_pending_task u ≡ true) ⊎ (may_try_again u ≡ true))
+    by_then : (m : ObjectSource) (t : OwnTask) → task_by h.worker.objects m ≡ Some t → ((is_pending_task t ≡ true) ⊎ (may_try_again t ≡ true)) → (u : OwnTask) × (task_by ys m ≡ Some u) × ((is_pending_task u ≡ true) ⊎ (may_try_again u ≡ true))
     by_then WasPut t e more = absurd (cc)
     by_then (ByTask v) t e more = (v, refl, let same : v ≡ t = cc in subst (λ (x : OwnTask). (is_pending_task x ≡ true) ⊎ (may_try_again x ≡ true)) (sym same) more)
     by_then (Beside n) t e more =
@@ -112,7 +112,7 @@ module _ (f : Frame) where
         (λ b _. let same = eqb-true j first b in
         let i : item_at h.worker.objects first ≡ Some fit.object = ap (item_at h.worker.objects) (sym same) ∙ fit.there in
         record { object = with_task next fit.object; there = ap (item_at ys) same ∙ item-same h.worker.objects first (with_task next) fit.object i; bare = fit.bare; task = next; by = refl; more = inl refl })
-        (λ b _. let r = by_then fit.object.maker fit.task fit.by fit.more in
+        (λ b _. let r = by_then fit.object.source fit.task fit.by fit.more in
         record { object = fit.object; there = item-elsewhere h.worker.objects j first (with_task next) b ∙ fit.there; bare = fit.bare; task = r.0; by = r.1; more = r.2 }) refl
 
     all_then : (ks : List ℕ) → AllByRecursion (Fits h) ks → AllByRecursion (Fits then_) ks
@@ -121,17 +121,17 @@ module _ (f : Frame) where
 
   -- ---- each in turn
 
-  pub remakes_sound : (ks : List ℕ) (asked : List Asking) (h : Here) → SoundHere f asked h → AllByRecursion (Fits h) ks → Sound f (remakes h ks)
+  pub remakes_sound : (ks : List ℕ) (asked : List Asking) (h : WorkerContext) → SoundHere f asked h → AllByRecursion (Fits h) ks → Sound f (remakes h ks)
   remakes_sound [] asked h s all = (asked, s)
   remakes_sound (k ∷ ks) asked h s all =
       let fit = all.0 in
       subst (λ r. Sound f (remakes (remakes_one h k r) ks)) (sym fit.there)
-      (subst (λ r. Sound f (remakes (remakes_by h (first_by k fit.object.maker) r) ks)) (sym fit.by)
-      (at_test (λ b. is_pending_task fit.task ≡ b → Sound f (remakes (if b then h else requests h (object_id h.me (first_by k fit.object.maker)) (next_attempt fit.task)) ks)) (is_pending_task fit.task)
+      (subst (λ r. Sound f (remakes (remakes_by h (first_by k fit.object.source) r) ks)) (sym fit.by)
+      (at_test (λ b. is_pending_task fit.task ≡ b → Sound f (remakes (if b then h else requests h (object_id h.me (first_by k fit.object.source)) (next_attempt fit.task)) ks)) (is_pending_task fit.task)
       (λ b _. remakes_sound ks asked h s all.1)
       (λ b _. let lost : is_lost h.worker.objects fit.object ≡ true = ap (λ t. t && not (is_pending h.worker.objects fit.object)) fit.bare ∙ ap not (ap is_pending_by fit.by ∙ b) in
       let l : LostHere h k = record { object = fit.object; there = fit.there; lost = lost } in
-      let r = lost_result f asked h s k l fit.object.maker refl (λ put. not_put fit.object.maker h.worker.objects fit.task put fit.by) in
+      let r = lost_result f asked h s k l fit.object.source refl (λ put. not_put fit.object.source h.worker.objects fit.task put fit.by) in
       let g = r.by in
       let e = fit.by in
       let same : r.task ≡ fit.task = cc in

@@ -24,11 +24,11 @@ use Rattle.numbered.specs.of_protocol.Numbered.{item_at}
 use Rattle.numbered.specs.Counting.{item_of}
 use Rattle.numbered.proofs.Lists.{joined_cases}
 use Rattle.numbered.specs.of_protocol.Sets.{object_id}
-use Rattle.numbered.specs.of_protocol.Tables.{Maker, WasPut, ByTask, Beside, Object, OwnTask, Ready, Run, Worker, first_by, task_of}
+use Rattle.numbered.specs.of_protocol.Tables.{ObjectSource, WasPut, ByTask, Beside, Object, OwnTask, Ready, Execution, Worker, first_by, task_of}
 use Rattle.numbered.specs.of_protocol.Events.{objects_made}
 use Rattle.protocol_legal.specs.Past.{Asking, Past, past, asking, WasAskedAt}
 use Rattle.protocol_legal.specs.Grows.{Grows}
-use Rattle.protocol_legal.specs.Knows.{GoesOn, KnowsTask, listed, once, IsPartOf, IsRow, IsTask, IsUntouched, KnowsMaker, KnowsObject, KnowsPhase, KnowsResult, KnowsRun, KnowsWorker}
+use Rattle.protocol_legal.specs.Knows.{GoesOn, KnowsTask, listed, once, IsPartOf, IsRow, IsTask, IsUntouched, KnowsSource, KnowsObject, KnowsPhase, KnowsResult, KnowsRun, KnowsWorker}
 use Rattle.protocol_legal.specs.Names.{IsDeadIfAny}
 use Rattle.protocol_legal.specs.Whole.{IsCalm}
 use Rattle.protocol_legal.proofs.Names.{all_among, all_have_grows, all_once}
@@ -52,7 +52,7 @@ same_ids : {i j m n : ℕ} → i ≡ j → m ≡ n → object_id i m ≡ object_
 same_ids e f = cc
 
 -- the first object of an owner's object stands in its table
-first_within : (p : Past) (home : ℕ) (xs : List Object) (o : Id) (x : Object) (m : Maker) → item_at xs o.serial ≡ Some x → KnowsMaker p home xs o x m → first_by o.serial m < 1 + length xs
+first_within : (p : Past) (home : ℕ) (xs : List Object) (o : Id) (x : Object) (m : ObjectSource) → item_at xs o.serial ≡ Some x → KnowsSource p home xs o x m → first_by o.serial m < 1 + length xs
 first_within p home xs o x WasPut i k = (item-bounds xs o.serial x i).1
 first_within p home xs o x (ByTask task) i k = (item-bounds xs o.serial x i).1
 first_within p home xs o x (Beside n) i k = at_row (item_at xs n) refl k.1
@@ -71,10 +71,10 @@ rows_before xs ys = record {
 abbrev pub bearing : Id → Birth → Bearing
 bearing o b = record { object = o; birth = b }
 
-abbrev pub with_birth : Run → Birth → Run
+abbrev pub with_birth : Execution → Birth → Execution
 with_birth run b = record run { births = run.births ++ b ∷ [] }
 
-abbrev pub with_born : Worker → Run → Birth → List Object → Worker
+abbrev pub with_born : Worker → Execution → Birth → List Object → Worker
 with_born x run b obs = record x { objects = x.objects ++ obs; run = Some (with_birth run b) }
 
 -- what comes next was not born before
@@ -92,7 +92,7 @@ birth_unborn bs o none = go (birth_at bs o) refl
     go None e = e
     go (Some b) e = let h = born_if_first bs o b e in let f = h.1 in absurd (cc)
 
-module _ (s : Setting) (log : List Entry) (asked : List Asking) (w : ℕ) (x : Worker) (run : Run) (b : Birth) (sane : Sane log) (calm : IsCalm (past log asked)) (h : KnowsWorker s (past log asked) w x)
+module _ (s : Setting) (log : List Entry) (asked : List Asking) (w : ℕ) (x : Worker) (run : Execution) (b : Birth) (sane : Sane log) (calm : IsCalm (past log asked)) (h : KnowsWorker s (past log asked) w x)
     (is : x.run ≡ Some run) (ready : run.phase ≡ Ready) (fresh : (z : Id) → next_serial z.owner (births log) ≤ z.serial → FreshIsUnknown log z) (bear : MayBear s log (object_id w (length x.objects + 1)) run.attempt b) where
   abbrev pub o : Id
   o = object_id w (length x.objects + 1)
@@ -149,7 +149,7 @@ module _ (s : Setting) (log : List Entry) (asked : List Asking) (w : ℕ) (x : W
     then_ = with_born x run b obs
 
     stays : RunStays p (q news) (g news) x then_
-    stays r e = let f : run ≡ r = cc in inr (with_birth run b, refl, ap (λ (z : Run). z.attempt) f)
+    stays r e = let f : run ≡ r = cc in inr (with_birth run b, refl, ap (λ (z : Execution). z.attempt) f)
 
     module _ (all : length obs ≡ results_of b) where
       longer : length (x.objects ++ obs) ≡ length x.objects + results_of b
@@ -218,9 +218,9 @@ module _ (s : Setting) (log : List Entry) (asked : List Asking) (w : ℕ) (x : W
           each : (i : ℕ) (z : Object) → item_at (x.objects ++ obs) i ≡ Some z → KnowsObject (q news) then_ (object_id w i) z
           each i z e' = elim (joined_cases x.objects obs i z e') [
             | inl old ↦ let ko = h.objects i z old in
-                let l = first_within p x.node x.objects (object_id w i) z z.maker old ko.maker in
+                let l = first_within p x.node x.objects (object_id w i) z z.source old ko.source in
                 object_quiet p (q news) (g news) (λ n. Unit {0}) x then_ i w z old (rows_before x.objects obs) tt
-                (record { runs = refl; accepts = λ j. refl; asked = λ n j d. older (first_by i z.maker) n j (λ f. omega (arith, l, f)) d })
+                (record { runs = refl; accepts = λ j. refl; asked = λ n j d. older (first_by i z.source) n j (λ f. omega (arith, l, f)) d })
                 (record { resolves = refl; releases = refl }) refl stays ko
             | inr new' ↦ new i z new'
           ]
@@ -250,8 +250,8 @@ module _ (s : Setting) (log : List Entry) (asked : List Asking) (w : ℕ) (x : W
 
       -- nothing is known of it yet but how it is made
       pub new_known : (ob : Object) → ob.bearer ≡ run.attempt → ob.fault ≡ None → ob.is_released ≡ false → ob.added ≡ [] → ob.dead_holder ≡ None → ob.ids ≡ each_once (ids_of_birth b) →
-          KnowsMaker (q news) x.node then_.objects z ob ob.maker → KnowsObject (q news) then_ z ob
-      new_known ob eb ef er ea ed ei maker = record {
+          KnowsSource (q news) x.node then_.objects z ob ob.source → KnowsObject (q news) then_ z ob
+      new_known ob eb ef er ea ed ei source = record {
         bearer = subst (λ a. Among a (bearers_of z (log ++ born ∷ []))) (sym eb)
             (subst (Among run.attempt) (sym (word_push (bearer_in z) log born ∙ ap (λ t. bearers_of z log ++ (if t then run.attempt ∷ [] else [])) is_new))
             (among_right run.attempt (bearers_of z log) (run.attempt ∷ []) (among_here run.attempt [])));
@@ -259,7 +259,7 @@ module _ (s : Setting) (log : List Entry) (asked : List Asking) (w : ℕ) (x : W
         resolved = not_yet (resolved_in z) refl unknown.unresolved ∙ ap listed (sym ef);
         known = λ f i. absurd (cc);
         released = not_yet (released_in z) refl unknown.unreleased ∙ ap (λ r. once r z) (sym er);
-        maker = maker;
+        source = source;
         names = record {
           ids = subst (AllByRecursion (λ y. HasId (log ++ born ∷ []) z y)) (sym ei) names_now;
           holders = subst (AllByRecursion (λ y. HasId (log ++ born ∷ []) y z)) (sym ea) tt;
@@ -306,8 +306,8 @@ module _ (s : Setting) (log : List Entry) (asked : List Asking) (w : ℕ) (x : W
   abbrev pub asks : OwnTask
   asks = asks_of_task b x.node
 
-  abbrev row_of : Maker → Object
-  row_of maker = task_row run.attempt b maker
+  abbrev row_of : ObjectSource → Object
+  row_of source = task_row run.attempt b source
 
   -- the first has the task, the others stand beside
   abbrev rows : List Object
@@ -335,8 +335,8 @@ module _ (s : Setting) (log : List Entry) (asked : List Asking) (w : ℕ) (x : W
       record { object = row_of (ByTask asks); there = ap (item_at there_.objects) e ∙ first_row; of = e; is_released = refl }
   row_there (suc i) l = record { object = row_of (Beside o.serial); there = other_row (o.serial + suc i) (omega arith) (omega (arith, l)); of = refl; is_released = refl }
 
-  result_known : (z : Id) (place : ℕ) (maker : Maker) → KnowsResult (log ++ born ∷ []) z o place (row_of maker) true
-  result_known z place maker = record { made = λ number e. absurd (cc); bare = λ e. (refl, refl); rests = λ e f. absurd (cc); spent = λ e. absurd (cc) }
+  result_known : (z : Id) (place : ℕ) (source : ObjectSource) → KnowsResult (log ++ born ∷ []) z o place (row_of source) true
+  result_known z place source = record { made = λ number e. absurd (cc); bare = λ e. (refl, refl); rests = λ e f. absurd (cc); spent = λ e. absurd (cc) }
 
   task_now : IsTask b → KnowsTask (q asked_now) o there_.objects asks
   task_now task = record {

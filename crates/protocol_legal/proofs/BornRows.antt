@@ -16,7 +16,7 @@ use Rattle.numbered.specs.Counting.{item_of, changed}
 use Rattle.numbered.proofs.Places.{changed_is, placed}
 use Rattle.numbered.proofs.Lists.{counted_item_within, counted_repeated_at}
 use Rattle.numbered.specs.of_protocol.Sets.{repeated}
-use Rattle.numbered.specs.of_protocol.Tables.{AskedAt, OwnTask, Maker, ByTask, Beside, Object, new_task, new_object, put_object}
+use Rattle.numbered.specs.of_protocol.Tables.{AskedAt, OwnTask, ObjectSource, ByTask, Beside, Object, new_task, new_object, put_object}
 use Rattle.numbered.specs.of_protocol.Events.{objects_made}
 
 -- ---- lists
@@ -113,8 +113,8 @@ abbrev pub put_row : Attempt → ℕ → Birth → Object
 put_row a n b = put_object a (each_once (ids_of_birth b)) n
 
 -- a new object of a task
-abbrev pub task_row : Attempt → Birth → Maker → Object
-task_row a b maker = new_object maker a (each_once (ids_of_birth b))
+abbrev pub task_row : Attempt → Birth → ObjectSource → Object
+task_row a b source = new_object source a (each_once (ids_of_birth b))
 
 -- the objects of a task that is asked for, the first of them with that serial
 abbrev pub task_rows : Attempt → ℕ → ℕ → Birth → List Object

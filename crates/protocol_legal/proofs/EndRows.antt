@@ -12,7 +12,7 @@ use Rattle.numbered.specs.of_protocol.Numbered.{item_at, changed_at}
 use Rattle.numbered.specs.of_protocol.Sets.{object_id, rest_of}
 use Rattle.numbered.specs.of_protocol.Tables.{Object, Worker, first_by, with_content}
 use Rattle.numbered.specs.of_protocol.Messages.{EndedResult}
-use Rattle.numbered.specs.of_protocol.Steps.{Here, with_worker}
+use Rattle.numbered.specs.of_protocol.Steps.{WorkerContext, with_worker}
 use Rattle.numbered.specs.of_protocol.Ends.{first_result, settles}
 use Rattle.protocol_legal.specs.Past.{Past}
 use Rattle.protocol_legal.specs.Grows.{Grows}
@@ -24,10 +24,10 @@ use Rattle.numbered.proofs.Lists.{changed-length}
 -- ---- the objects of other tasks stay as they are
 
 module _ (p q : Past) (g : Grows p q) (x : Worker) (w k : ℕ) (ys : List Object)
-    (same : (j : ℕ) (z : Object) → item_at x.objects j ≡ Some z → (first_by j z.maker == k) ≡ false → item_at ys j ≡ Some z)
+    (same : (j : ℕ) (z : Object) → item_at x.objects j ≡ Some z → (first_by j z.source == k) ≡ false → item_at ys j ≡ Some z)
     (back : (j : ℕ) (v : Object) → item_at ys j ≡ Some v → (z : Object) × (item_at x.objects j ≡ Some z))
     (others : (j : ℕ) → (j == k) ≡ false → IsQuietTask p q g (object_id w j))
-    (quiet : (j : ℕ) (z : Object) → item_at x.objects j ≡ Some z → (first_by j z.maker == k) ≡ false → IsQuiet p q g (object_id w j))
+    (quiet : (j : ℕ) (z : Object) → item_at x.objects j ≡ Some z → (first_by j z.source == k) ≡ false → IsQuiet p q g (object_id w j))
     (knows : (j : ℕ) (z : Object) → item_at x.objects j ≡ Some z → KnowsObject p x (object_id w j) z) where
   abbrev y : Worker
   y = record x { objects = ys }
@@ -52,15 +52,15 @@ module _ (p q : Past) (g : Grows p q) (x : Worker) (w k : ℕ) (ys : List Object
   stays run e = inr (run, e, refl)
 
   -- each object is known, where those of the task are
-  pub all_known : ((j : ℕ) (z v : Object) → item_at x.objects j ≡ Some z → first_by j z.maker ≡ k → item_at ys j ≡ Some v → KnowsObject q y (object_id w j) v) →
+  pub all_known : ((j : ℕ) (z v : Object) → item_at x.objects j ≡ Some z → first_by j z.source ≡ k → item_at ys j ≡ Some v → KnowsObject q y (object_id w j) v) →
       (j : ℕ) (v : Object) → item_at ys j ≡ Some v → KnowsObject q y (object_id w j) v
   all_known group j v i =
       let was = back j v i in
-      at_test (λ c. (first_by j was.0.maker == k) ≡ c → KnowsObject q y (object_id w j) v) (first_by j was.0.maker == k)
-      (λ c _. group j was.0 v was.1 (eqb-true (first_by j was.0.maker) k c) i)
+      at_test (λ c. (first_by j was.0.source == k) ≡ c → KnowsObject q y (object_id w j) v) (first_by j was.0.source == k)
+      (λ c _. group j was.0 v was.1 (eqb-true (first_by j was.0.source) k c) i)
       (λ c _. let at = same j was.0 was.1 c in
       let is : was.0 ≡ v = cc in
-      subst (KnowsObject q y (object_id w j)) is (object_quiet p q g apart x y j w was.0 was.1 rows_apart c (others (first_by j was.0.maker) c) (quiet j was.0 was.1 c) refl stays (knows j was.0 was.1))) refl
+      subst (KnowsObject q y (object_id w j)) is (object_quiet p q g apart x y j w was.0 was.1 rows_apart c (others (first_by j was.0.source) c) (quiet j was.0 was.1 c) refl stays (knows j was.0 was.1))) refl
 
 -- ---- the rows of a task that is accepted
 
@@ -68,11 +68,11 @@ abbrev pub settled_rows : List Object → ℕ → ℕ → ℕ → ℕ → List E
 settled_rows xs serial number n zero rs = xs
 settled_rows xs serial number n (suc k) rs = settled_rows (changed_at xs serial (with_content number n (first_result rs).ids (first_result rs).kept)) (serial + 1) number n k (rest_of rs)
 
-with_same : (h : Here) → with_worker h (record h.worker { objects = h.worker.objects }) ≡ h
+with_same : (h : WorkerContext) → with_worker h (record h.worker { objects = h.worker.objects }) ≡ h
 with_same h = refl
 
 -- nothing but the objects changes
-pub settles_rows : (h : Here) (o : Id) (number n k : ℕ) (rs : List EndedResult) → settles h o number n k rs ≡ with_worker h (record h.worker { objects = settled_rows h.worker.objects o.serial number n k rs })
+pub settles_rows : (h : WorkerContext) (o : Id) (number n k : ℕ) (rs : List EndedResult) → settles h o number n k rs ≡ with_worker h (record h.worker { objects = settled_rows h.worker.objects o.serial number n k rs })
 settles_rows h o number n zero rs = sym (with_same h)
 settles_rows h o number n (suc k) rs =
     settles_rows (with_worker h (record h.worker { objects = changed_at h.worker.objects o.serial (with_content number n (first_result rs).ids (first_result rs).kept) })) (next_id o) number n k (rest_of rs)

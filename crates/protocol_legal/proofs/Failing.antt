@@ -15,7 +15,7 @@ use Rattle.numbered.specs.of_protocol.Tables.{Object, OwnTask, RunsOn, is_pendin
 use Rattle.numbered.specs.of_protocol.Ends.{failed_by, failed_reached, fails, hears_of_end, if_present, resolves_open_by}
 use Rattle.numbered.specs.of_protocol.Asking.{answers_faulted, rests}
 use Rattle.numbered.specs.of_protocol.Messages.{FinishedAck}
-use Rattle.numbered.specs.of_protocol.Steps.{Here, each_result, object_at, with_task_of}
+use Rattle.numbered.specs.of_protocol.Steps.{WorkerContext, each_result, object_at, with_task_of}
 use Rattle.protocol_legal.specs.Past.{Asking, Past}
 use Rattle.protocol_legal.specs.Lost.{IsKnownFault}
 use Rattle.protocol_legal.specs.Says.{HasFault}
@@ -68,7 +68,7 @@ module _ (g : Fault) where
   may_fail_by : (s : Setting) (log : List Entry) (w j : ℕ) → same_id (object_id w j) main_object ≡ false → IsOwn s log w → resolves_of (object_id w j) log ≡ [] → HasFaulted log w j → MayResolve s log (object_id w j) g
   may_fail_by s log w j apart own none e = record { own = own; not_main = apart; once = none; reason = inl e.0; cause = e.1.cause }
 
-  module _ (f : Frame) (asked : List Asking) (h : Here) (s : SoundHere f asked h) (k : ℕ) (task : OwnTask) (t : OwnTaskAt h k task) (pending : is_pending_task task ≡ true) where
+  module _ (f : Frame) (asked : List Asking) (h : WorkerContext) (s : SoundHere f asked h) (k : ℕ) (task : OwnTask) (t : OwnTaskAt h k task) (pending : is_pending_task task ≡ true) where
     abbrev o : Id
     o = object_id h.me k
 
@@ -110,7 +110,7 @@ module _ (g : Fault) where
 
 -- ---- the message
 
-module _ (f : Frame) (asked : List Asking) (h : Here) (s : SoundHere f asked h) (w : ℕ) (a : Attempt) where
+module _ (f : Frame) (asked : List Asking) (h : WorkerContext) (s : SoundHere f asked h) (w : ℕ) (a : Attempt) where
   pub heard : SoundHere f asked (hears_of_end h w a)
   heard = here_says f asked h s w (FinishedAck a) tt
 

@@ -6,8 +6,8 @@ use Rattle.std.proofs.lemmas.Option.{same_Some}
 use Rattle.kind_laws.specs.of_event_log.Entries.{Deliver, Entry, In}
 use Rattle.kind_laws.specs.of_event_log.Rules.{Setting}
 use Rattle.kind_laws.proofs.of_event_log.Extending.{logs_extend}
-use Rattle.numbered.specs.of_protocol.Messages.{Letter}
-use Rattle.numbered.specs.of_protocol.Whole.{Whole}
+use Rattle.numbered.specs.of_protocol.Messages.{Envelope}
+use Rattle.numbered.specs.of_protocol.Cluster.{ClusterState}
 use Rattle.numbered.specs.Counting.{item_of}
 use Rattle.numbered.proofs.Places.{counted}
 use Rattle.protocol_legal.specs.Past.{past}
@@ -27,7 +27,7 @@ use Rattle.protocol_legal.specs.Law.{StepsStayLegal}
 use Rattle.numbered.specs.of_protocol.Numbered.{item_at}
 use Rattle.protocol_legal.specs.Whole.{Between}
 
-pub item_said : (P : Letter → Type 0) (ls : List Letter) (i k : ℕ) (l : Letter) → AllByRecursion P ls → item_of i ls k ≡ Some l → P l
+pub item_said : (P : Envelope → Type 0) (ls : List Envelope) (i k : ℕ) (l : Envelope) → AllByRecursion P ls → item_of i ls k ≡ Some l → P l
 item_said P [] i k l h g = absurd (cc)
 item_said P (x ∷ ls) i k l h g = one (i == k) g (item_said P ls (i + 1) k l h.1)
   where
@@ -36,7 +36,7 @@ item_said P (x ∷ ls) i k l h g = one (i == k) g (item_said P ls (i + 1) k l h.
     one false e ih = ih e
 
 -- the worker is taken out of the whole, and put back
-events_of_workers : (s : Setting) (log : List Entry) (c : Whole) (b : Between s log c) → EventsOfWorkers s log c b
+events_of_workers : (s : Setting) (log : List Entry) (c : ClusterState) (b : Between s log c) → EventsOfWorkers s log c b
 events_of_workers s log c b = record {
   enters = λ e seat w x node t. enters.enters s log c b e seat w x node t.at t.lives t.home t.own;
   sound_at_once = λ e seat w x node a h u. enters.sound_at_once s log c b e seat w x node a h u;
@@ -51,13 +51,13 @@ events_of_workers s log c b = record {
   dead_node_then = λ e seat n h. worker.still_killed log e seat n h;
 }
 
-pub said_behind : (s : Setting) (log : List Entry) (c : Whole) (b : Between s log c) (k seat : ℕ) (l : Letter) → item_at c.network k ≡ Some l → Says (past (log ++ In (Deliver k) seat ∷ []) b.asked) l
+pub said_behind : (s : Setting) (log : List Entry) (c : ClusterState) (b : Between s log c) (k seat : ℕ) (l : Envelope) → item_at c.network k ≡ Some l → Says (past (log ++ In (Deliver k) seat ∷ []) b.asked) l
 said_behind s log c b k seat l sent =
     says_grows (past log b.asked) (past (log ++ In (Deliver k) seat ∷ []) b.asked) (grows_silent log (In (Deliver k) seat ∷ []) b.asked (in_says_nothing (Deliver k) seat)) l
     (item_said (Says (past log b.asked)) c.network 1 k l b.knows.told (counted c.network k sent))
 
 -- what is no event of a worker's own
-events_of_others : (s : Setting) (log : List Entry) (c : Whole) → Between s log c → EventsOfOthers s log c
+events_of_others : (s : Setting) (log : List Entry) (c : ClusterState) → Between s log c → EventsOfOthers s log c
 events_of_others s log c b = record {
   node_reached = λ k seat n node l sent to at live delivered. node_is_reached node_families s log c b k seat n node l sent to at live (said_behind s log c b k seat l sent) delivered;
   passes_by = silent.passes_by s log c b;

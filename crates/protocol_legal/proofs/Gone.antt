@@ -7,8 +7,8 @@ use Rattle.meaning.proofs.BirthLaws.{at_test, same_id-true}
 use Rattle.kind_laws.specs.of_event_log.Entries.{Fault}
 use Rattle.numbered.specs.of_protocol.Sets.{object_id}
 use Rattle.numbered.specs.of_protocol.Messages.{Gone}
-use Rattle.numbered.specs.of_protocol.Tables.{Object, Phase, Ready, Out, Waits, HasEnded, HasFaulted, Run, without_askers, is_waiting_for, needed_by, object_needed, is_same_id}
-use Rattle.numbered.specs.of_protocol.Steps.{Here, says, own_object, changes}
+use Rattle.numbered.specs.of_protocol.Tables.{Object, Phase, Ready, Out, Waits, HasEnded, HasFaulted, Execution, without_askers, is_waiting_for, needed_by, object_needed, is_same_id}
+use Rattle.numbered.specs.of_protocol.Steps.{WorkerContext, says, own_object, changes}
 use Rattle.numbered.specs.of_protocol.Runs.{faults, faults_by, faults_at}
 use Rattle.numbered.specs.of_protocol.Asking.{tells_gone, faults_if_waiting, answers_gone, answers_faulted_by, answers_faulted}
 use Rattle.protocol_legal.specs.Past.{Asking}
@@ -23,21 +23,21 @@ use Rattle.protocol_legal.proofs.RowChange.{without_askers_sound}
 -- ---- whoever waits for it is answered
 
 module _ (f : Frame) (asked : List Asking) (o : Id) (g : Fault) where
-  tells_gone_sound : (h : Here) (ws : List ℕ) → SoundHere f asked h → IsGone (so_far f h.there.out.entries) o g → SoundHere f asked (tells_gone h ws o g)
+  tells_gone_sound : (h : WorkerContext) (ws : List ℕ) → SoundHere f asked h → IsGone (so_far f h.there.out.entries) o g → SoundHere f asked (tells_gone h ws o g)
   tells_gone_sound h [] s gone = s
   tells_gone_sound h (w ∷ ws) s gone = tells_gone_sound (says h w (Gone o g)) ws (here_says f asked h s w (Gone o g) gone) gone
 
-  pub tells_gone_keeps : (h : Here) (ws : List ℕ) → (tells_gone h ws o g).worker ≡ h.worker
+  pub tells_gone_keeps : (h : WorkerContext) (ws : List ℕ) → (tells_gone h ws o g).worker ≡ h.worker
   tells_gone_keeps h [] = refl
   tells_gone_keeps h (w ∷ ws) = tells_gone_keeps (says h w (Gone o g)) ws
 
-  tells_gone_logs : (h : Here) (ws : List ℕ) → (tells_gone h ws o g).there.out.entries ≡ h.there.out.entries
+  tells_gone_logs : (h : WorkerContext) (ws : List ℕ) → (tells_gone h ws o g).there.out.entries ≡ h.there.out.entries
   tells_gone_logs h [] = refl
   tells_gone_logs h (w ∷ ws) = tells_gone_logs (says h w (Gone o g)) ws
 
 -- the own attempt, where it waits for an object that is gone
-module _ (f : Frame) (asked : List Asking) (h : Here) (s : SoundHere f asked h) (o : Id) (g : Fault) (gone : IsGone (so_far f h.there.out.entries) o g) where
-  by_phase : (run : Run) → h.worker.run ≡ Some run → (phase : Phase) → run.phase ≡ phase → is_same_id (object_needed phase) o ≡ true → SoundHere f asked (faults_at h run g phase)
+module _ (f : Frame) (asked : List Asking) (h : WorkerContext) (s : SoundHere f asked h) (o : Id) (g : Fault) (gone : IsGone (so_far f h.there.out.entries) o g) where
+  by_phase : (run : Execution) → h.worker.run ≡ Some run → (phase : Phase) → run.phase ≡ phase → is_same_id (object_needed phase) o ≡ true → SoundHere f asked (faults_at h run g phase)
   by_phase run is (Waits y fetching) e needed =
       let same : y ≡ o = same_id-true y o needed in
       let k : KnowsRun f.setting (so_far f h.there.out.entries) h.me h.worker run = s.knows.run run is in
@@ -49,7 +49,7 @@ module _ (f : Frame) (asked : List Asking) (h : Here) (s : SoundHere f asked h) 
   by_phase run is (HasEnded c) e needed = s
   by_phase run is (HasFaulted d) e needed = s
 
-  by_run : (r : Option Run) → h.worker.run ≡ r → is_same_id (needed_by r) o ≡ true → SoundHere f asked (faults_by h g r)
+  by_run : (r : Option Execution) → h.worker.run ≡ r → is_same_id (needed_by r) o ≡ true → SoundHere f asked (faults_by h g r)
   by_run None is needed = s
   by_run (Some run) is needed = by_phase run is run.phase refl needed
 
@@ -58,7 +58,7 @@ module _ (f : Frame) (asked : List Asking) (h : Here) (s : SoundHere f asked h) 
       at_test (λ b. is_waiting_for h.worker o ≡ b → SoundHere f asked (if b then faults h g else h)) (is_waiting_for h.worker o)
       (λ b e. by_run h.worker.run refl e) (λ b e. s) refl
 
-module _ (f : Frame) (asked : List Asking) (h : Here) (s : SoundHere f asked h) (k : ℕ) where
+module _ (f : Frame) (asked : List Asking) (h : WorkerContext) (s : SoundHere f asked h) (k : ℕ) where
   abbrev that : Id
   that = object_id h.me k
 
@@ -81,5 +81,5 @@ module _ (f : Frame) (asked : List Asking) (h : Here) (s : SoundHere f asked h) 
       subst (λ r. SoundHere f asked (answers_faulted_by h that r)) (sym (ap (λ b. if b then own_object h k else None) mine)) (answers_found (own_object h k) refl)
 
 -- the worker of the event is the same all along
-pub answers_faulted_then : (f : Frame) (asked : List Asking) (h g : Here) (k : ℕ) → SoundHere f asked h → SoundHere f asked g → SoundHere f asked (answers_faulted g (object_id h.me k))
+pub answers_faulted_then : (f : Frame) (asked : List Asking) (h g : WorkerContext) (k : ℕ) → SoundHere f asked h → SoundHere f asked g → SoundHere f asked (answers_faulted g (object_id h.me k))
 answers_faulted_then f asked h g k s t = subst (λ w. SoundHere f asked (answers_faulted g (object_id w k))) (t.who ∙ sym s.who) (answers_faulted_sound f asked g t k)

@@ -7,7 +7,7 @@ use Rattle.kind_laws.specs.of_event_log.Entries.{Entry}
 use Rattle.kind_laws.specs.of_event_log.Holding.{HasId}
 use Rattle.numbered.specs.of_protocol.Sets.{object_id}
 use Rattle.numbered.specs.of_protocol.Tables.{Object, knows_dead, with_holder, with_dead_holder}
-use Rattle.numbered.specs.of_protocol.Steps.{Here, changes}
+use Rattle.numbered.specs.of_protocol.Steps.{WorkerContext, changes}
 use Rattle.numbered.specs.of_protocol.Holders.{adds_holder}
 use Rattle.protocol_legal.specs.Past.{Asking}
 use Rattle.protocol_legal.specs.Names.{IsDeadHolder, IsDeadIfAny, NamesOf}
@@ -25,7 +25,7 @@ lost_names log o e x lost k = record { ids = k.ids; holders = k.holders; dead = 
     by None h = lost
     by (Some d) h = h
 
-module _ (f : Frame) (asked : List Asking) (h : Here) (s : SoundHere f asked h) (e o : Id) (same : o ≡ object_id h.me o.serial) where
+module _ (f : Frame) (asked : List Asking) (h : WorkerContext) (s : SoundHere f asked h) (e o : Id) (same : o ≡ object_id h.me o.serial) where
   pub lost_sound : IsDeadHolder (so_far f h.there.out.entries) e o → SoundHere f asked (changes h o (with_dead_holder e))
   lost_sound lost = subst (λ z. SoundHere f asked (changes h z (with_dead_holder e))) (sym same)
       (placed_sound f asked h s o.serial (with_dead_holder e) (λ z. refl) (λ z. refl) (λ z. refl) (λ z. refl) (λ z. refl) (λ z. refl) (λ z e. e) (λ z j number m x made y u v. inl v)
@@ -36,7 +36,7 @@ module _ (f : Frame) (asked : List Asking) (h : Here) (s : SoundHere f asked h) 
       (placed_sound f asked h s o.serial (with_holder e) (λ z. refl) (λ z. refl) (λ z. refl) (λ z. refl) (λ z. refl) (λ z. refl) (λ z e. e) (λ z j number m x made y u v. inl v)
       (λ x k. held_names (so_far f h.there.out.entries) (object_id h.me o.serial) e x (subst (HasId (so_far f h.there.out.entries) e) same has) k))
 
-pub adds_sound : (f : Frame) (asked : List Asking) (h : Here) (s : SoundHere f asked h) (e o : Id) → o ≡ object_id h.me o.serial → HasId (so_far f h.there.out.entries) e o → SoundHere f asked (adds_holder h e o)
+pub adds_sound : (f : Frame) (asked : List Asking) (h : WorkerContext) (s : SoundHere f asked h) (e o : Id) → o ≡ object_id h.me o.serial → HasId (so_far f h.there.out.entries) e o → SoundHere f asked (adds_holder h e o)
 adds_sound f asked h s e o same has =
     at_test (λ b. knows_dead h.worker e.owner ≡ b → SoundHere f asked (if b then changes (changes h o (with_holder e)) o (with_dead_holder e) else changes h o (with_holder e))) (knows_dead h.worker e.owner)
     (λ b k. lost_sound f asked (changes h o (with_holder e)) (held_sound f asked h s e o same has) e o same (has, s.knows.dead e.owner k))

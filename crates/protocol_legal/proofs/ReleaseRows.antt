@@ -14,7 +14,7 @@ use Rattle.kind_laws.specs.of_event_log.Legal.{has_event}
 use Rattle.numbered.specs.of_protocol.Numbered.{item_at, changed_at}
 use Rattle.numbered.specs.of_protocol.Sets.{object_id}
 use Rattle.numbered.specs.of_protocol.Tables.{Object, released}
-use Rattle.numbered.specs.of_protocol.Steps.{Here, with_worker}
+use Rattle.numbered.specs.of_protocol.Steps.{WorkerContext, with_worker}
 use Rattle.numbered.specs.of_protocol.Releases.{marks_released}
 use Rattle.protocol_legal.proofs.Numbers.{item-same, item-elsewhere}
 use Rattle.protocol_legal.proofs.Resolving.{same_serial}
@@ -26,7 +26,7 @@ abbrev pub released_rows : List Object → ℕ → ℕ → List Object
 released_rows xs j zero = xs
 released_rows xs j (suc n) = released_rows (changed_at xs j released) (j + 1) n
 
-pub marks_rows : (h : Here) (j n : ℕ) → marks_released h j n ≡ with_worker h (record h.worker { objects = released_rows h.worker.objects j n })
+pub marks_rows : (h : WorkerContext) (j n : ℕ) → marks_released h j n ≡ with_worker h (record h.worker { objects = released_rows h.worker.objects j n })
 marks_rows h j zero = refl
 marks_rows h j (suc n) = marks_rows (with_worker h (record h.worker { objects = changed_at h.worker.objects j released })) (j + 1) n
 

@@ -15,7 +15,7 @@ use Rattle.kind_laws.proofs.of_event_log.WordLaws.{word_push}
 use Rattle.numbered.specs.of_protocol.Numbered.{item_at, changed_at}
 use Rattle.numbered.specs.of_protocol.Sets.{object_id}
 use Rattle.numbered.specs.of_protocol.Tables.{Object, with_fault}
-use Rattle.numbered.specs.of_protocol.Steps.{Here, each_from, logs, logs_all, object_at, own_id, own_object, with_worker}
+use Rattle.numbered.specs.of_protocol.Steps.{WorkerContext, each_from, logs, logs_all, object_at, own_id, own_object, with_worker}
 use Rattle.numbered.specs.of_protocol.Asking.{resolves}
 use Rattle.protocol_legal.specs.Past.{Asking, WasAskedAt}
 use Rattle.protocol_legal.specs.Grows.{Grows}
@@ -28,7 +28,7 @@ use Rattle.numbered.proofs.Lists.{changed-length}
 
 -- ---- a worker in its event, but for what it knows of its objects
 
-pub record SoundEvent (f : Frame) (asked : List Asking) (h : Here) : Type 0 where
+pub record SoundEvent (f : Frame) (asked : List Asking) (h : WorkerContext) : Type 0 where
   pub there : SoundThere f asked h.there
   pub who : h.me ≡ f.actor
   pub own : IsOwn f.setting (so_far f h.there.out.entries) h.me
@@ -37,17 +37,17 @@ pub record SoundEvent (f : Frame) (asked : List Asking) (h : Here) : Type 0 wher
   pub grows : Grows f.anchor (past_of f h.there.out.entries asked)
   pub mine : (a : Attempt) (k : ℕ) → WasAskedAt (past_of f h.there.out.entries asked) a k → (a.object.owner ≡ h.me → ⊥) → WasAskedAt (past_of f h.there.out.entries f.asked) a k
 
-pub event_of : (f : Frame) (asked : List Asking) (h : Here) → SoundHere f asked h → SoundEvent f asked h
+pub event_of : (f : Frame) (asked : List Asking) (h : WorkerContext) → SoundHere f asked h → SoundEvent f asked h
 event_of f asked h s = record { there = s.there; who = s.who; own = s.own; at_home = s.at_home; worker_lives = s.worker_lives; grows = s.grows; mine = s.mine }
 
-pub sound_of : (f : Frame) (asked : List Asking) (h : Here) → SoundEvent f asked h → KnowsWorker f.setting (past_of f h.there.out.entries asked) h.me h.worker → SoundHere f asked h
+pub sound_of : (f : Frame) (asked : List Asking) (h : WorkerContext) → SoundEvent f asked h → KnowsWorker f.setting (past_of f h.there.out.entries asked) h.me h.worker → SoundHere f asked h
 sound_of f asked h e k = record { there = e.there; who = e.who; own = e.own; at_home = e.at_home; worker_lives = e.worker_lives; grows = e.grows; mine = e.mine; knows = k }
 
 -- its objects change
-pub event_changes : (f : Frame) (asked : List Asking) (h : Here) (ys : List Object) → SoundEvent f asked h → SoundEvent f asked (with_worker h (record h.worker { objects = ys }))
+pub event_changes : (f : Frame) (asked : List Asking) (h : WorkerContext) (ys : List Object) → SoundEvent f asked h → SoundEvent f asked (with_worker h (record h.worker { objects = ys }))
 event_changes f asked h ys e = record { there = e.there; who = e.who; own = e.own; at_home = e.at_home; worker_lives = e.worker_lives; grows = e.grows; mine = e.mine }
 
-pub event_logs : (f : Frame) (asked : List Asking) (h : Here) (x : Entry) → SoundEvent f asked h → Allowed f.setting (so_far f h.there.out.entries) x → is_beside x ≡ true → opened_in x ≡ [] → SoundEvent f asked (logs h x)
+pub event_logs : (f : Frame) (asked : List Asking) (h : WorkerContext) (x : Entry) → SoundEvent f asked h → Allowed f.setting (so_far f h.there.out.entries) x → is_beside x ≡ true → opened_in x ≡ [] → SoundEvent f asked (logs h x)
 event_logs f asked h x e a b o = record {
   there = there_logs f asked h.there e.there x a b o;
   who = e.who;
@@ -61,16 +61,16 @@ event_logs f asked h x e a b o = record {
 -- ---- one step
 
 -- a step that changes objects and logs
-abbrev pub goes_to : Here → List Object → List Entry → Here
+abbrev pub goes_to : WorkerContext → List Object → List Entry → WorkerContext
 goes_to h ys es = logs_all (with_worker h (record h.worker { objects = ys })) es
 
-same_here : (h : Here) → h ≡ goes_to h h.worker.objects []
+same_here : (h : WorkerContext) → h ≡ goes_to h h.worker.objects []
 same_here h = ap (λ es. record h { there = record h.there { out = record h.there.out { entries = es } } }) (sym (append-nil h.there.out.entries))
 
-mine : (h : Here) (j : ℕ) → object_at h (own_id h j) ≡ own_object h j
+mine : (h : WorkerContext) (j : ℕ) → object_at h (own_id h j) ≡ own_object h j
 mine h j = let e : (h.me == h.me) ≡ true = grind (arith, nat_tests) in ap (λ b. if b then own_object h j else None) e
 
-goes_on : (h : Here) (ys zs : List Object) (es fs : List Entry) → goes_to (goes_to h ys es) zs fs ≡ goes_to h zs (es ++ fs)
+goes_on : (h : WorkerContext) (ys zs : List Object) (es fs : List Entry) → goes_to (goes_to h ys es) zs fs ≡ goes_to h zs (es ++ fs)
 goes_on h ys zs es fs = ap (λ gs. record h { worker = record h.worker { objects = zs }; there = record h.there { out = record h.there.out { entries = gs } } }) (append_assoc h.there.out.entries es fs)
 
 pub same_serial : (w i j : ℕ) → (i == j) ≡ false → same_id (object_id w j) (object_id w i) ≡ false
@@ -111,9 +111,9 @@ module _ (test : Object → Bool) (cause : ℕ → ℕ → Fault) where
   resolved_entries xs w j (suc n) = entry_at w j (item_at xs j) ++ resolved_entries (rows_at xs w j (item_at xs j)) w (j + 1) n
 
   -- the step of one object
-  module _ (by : Here → Id → Option Object → Here) (for_none : (h : Here) (j : ℕ) → by h (own_id h j) None ≡ h)
-      (for_some : (h : Here) (j : ℕ) (z : Object) → by h (own_id h j) (Some z) ≡ (if test z then resolves h (own_id h j) (cause h.me j) else h)) where
-    one_resolved : (h : Here) (j : ℕ) → by h (own_id h j) (object_at h (own_id h j)) ≡ goes_to h (rows_at h.worker.objects h.me j (item_at h.worker.objects j)) (entry_at h.me j (item_at h.worker.objects j))
+  module _ (by : WorkerContext → Id → Option Object → WorkerContext) (for_none : (h : WorkerContext) (j : ℕ) → by h (own_id h j) None ≡ h)
+      (for_some : (h : WorkerContext) (j : ℕ) (z : Object) → by h (own_id h j) (Some z) ≡ (if test z then resolves h (own_id h j) (cause h.me j) else h)) where
+    one_resolved : (h : WorkerContext) (j : ℕ) → by h (own_id h j) (object_at h (own_id h j)) ≡ goes_to h (rows_at h.worker.objects h.me j (item_at h.worker.objects j)) (entry_at h.me j (item_at h.worker.objects j))
     one_resolved h j = ap (by h (own_id h j)) (mine h j) ∙ go (item_at h.worker.objects j)
       where
         go : (r : Option Object) → by h (own_id h j) r ≡ goes_to h (rows_at h.worker.objects h.me j r) (entry_at h.me j r)
@@ -122,7 +122,7 @@ module _ (test : Object → Bool) (cause : ℕ → ℕ → Fault) where
             ≡ goes_to h (if b then changed_at h.worker.objects j (with_fault (cause h.me j)) else h.worker.objects) (if b then Resolved (object_id h.me j) (cause h.me j) ∷ [] else [])) (test z) (λ b. refl) (λ b. same_here h)
 
     -- all of them, in order
-    pub resolves_rows : (h : Here) (j n : ℕ) → each_from (λ g i. by g (own_id g i) (object_at g (own_id g i))) h j n ≡ goes_to h (resolved_rows h.worker.objects h.me j n) (resolved_entries h.worker.objects h.me j n)
+    pub resolves_rows : (h : WorkerContext) (j n : ℕ) → each_from (λ g i. by g (own_id g i) (object_at g (own_id g i))) h j n ≡ goes_to h (resolved_rows h.worker.objects h.me j n) (resolved_entries h.worker.objects h.me j n)
     resolves_rows h j zero = same_here h
     resolves_rows h j (suc n) =
         let xs = rows_at h.worker.objects h.me j (item_at h.worker.objects j) in
@@ -228,12 +228,12 @@ module _ (test : Object → Bool) (cause : ℕ → ℕ → Fault) where
   module _ (Reason : List Entry → ℕ → ℕ → Type 0) (stays : (log : List Entry) (w j k : ℕ) → Reason log w k → Reason (log ++ Resolved (object_id w j) (cause w j) ∷ []) w k)
       (allowed : (s : Setting) (log : List Entry) (w j : ℕ) → same_id (object_id w j) main_object ≡ false → IsOwn s log w → resolves_of (object_id w j) log ≡ [] → Reason log w j → MayResolve s log (object_id w j) (cause w j)) where
     -- those of these objects for which the test is true aren't resolved, and there is a reason to resolve them
-    abbrev pub CanResolve : Frame → Here → List Object → ℕ → ℕ → Type 0
+    abbrev pub CanResolve : Frame → WorkerContext → List Object → ℕ → ℕ → Type 0
     CanResolve f h xs j n = (i : ℕ) (z : Object) → i < n → item_at xs (j + i) ≡ Some z → test z ≡ true →
         (same_id (object_id h.me (j + i)) main_object ≡ false) × (resolves_of (object_id h.me (j + i)) (so_far f h.there.out.entries) ≡ []) × Reason (so_far f h.there.out.entries) h.me (j + i)
 
     module _ (f : Frame) (asked : List Asking) where
-      one_allowed : (h : Here) (j : ℕ) (r : Option Object) → SoundEvent f asked h → ((z : Object) → r ≡ Some z → test z ≡ true → (same_id (object_id h.me j) main_object ≡ false) × (resolves_of (object_id h.me j) (so_far f h.there.out.entries) ≡ []) × Reason (so_far f h.there.out.entries) h.me j) →
+      one_allowed : (h : WorkerContext) (j : ℕ) (r : Option Object) → SoundEvent f asked h → ((z : Object) → r ≡ Some z → test z ≡ true → (same_id (object_id h.me j) main_object ≡ false) × (resolves_of (object_id h.me j) (so_far f h.there.out.entries) ≡ []) × Reason (so_far f h.there.out.entries) h.me j) →
           SoundEvent f asked (logs_all h (entry_at h.me j r))
       one_allowed h j None e can = subst (SoundEvent f asked) (same_here h) e
       one_allowed h j (Some z) e can =
@@ -242,7 +242,7 @@ module _ (test : Object → Bool) (cause : ℕ → ℕ → Fault) where
           (λ b i. subst (SoundEvent f asked) (same_here h) e) refl
 
       -- what could be resolved can be so behind what is logged of another object
-      still_can : (h : Here) (j : ℕ) (r : Option Object) (k : ℕ) → (k == j) ≡ false → resolves_of (object_id h.me k) (so_far f h.there.out.entries) ≡ [] → Reason (so_far f h.there.out.entries) h.me k →
+      still_can : (h : WorkerContext) (j : ℕ) (r : Option Object) (k : ℕ) → (k == j) ≡ false → resolves_of (object_id h.me k) (so_far f h.there.out.entries) ≡ [] → Reason (so_far f h.there.out.entries) h.me k →
           (resolves_of (object_id h.me k) (so_far f (h.there.out.entries ++ entry_at h.me j r)) ≡ []) × Reason (so_far f (h.there.out.entries ++ entry_at h.me j r)) h.me k
       still_can h j None k d none reason =
           let e : so_far f (h.there.out.entries ++ []) ≡ so_far f h.there.out.entries = ap (so_far f) (append-nil h.there.out.entries) in
@@ -260,7 +260,7 @@ module _ (test : Object → Bool) (cause : ℕ → ℕ → Fault) where
           (λ b. let e : so_far f (h.there.out.entries ++ []) ≡ so_far f h.there.out.entries = ap (so_far f) (append-nil h.there.out.entries) in
           (ap (resolves_of (object_id h.me k)) e ∙ none, subst (λ l. Reason l h.me k) (sym e) reason))
 
-      pub all_allowed : (h : Here) (xs : List Object) (j n : ℕ) → SoundEvent f asked h → CanResolve f h xs j n → SoundEvent f asked (logs_all h (resolved_entries xs h.me j n))
+      pub all_allowed : (h : WorkerContext) (xs : List Object) (j n : ℕ) → SoundEvent f asked h → CanResolve f h xs j n → SoundEvent f asked (logs_all h (resolved_entries xs h.me j n))
       all_allowed h xs j zero e can = subst (SoundEvent f asked) (same_here h) e
       all_allowed h xs j (suc n) e can =
           let es = entry_at h.me j (item_at xs j) in

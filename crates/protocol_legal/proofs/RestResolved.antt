@@ -15,13 +15,13 @@ use Rattle.kind_laws.specs.of_event_log.Legal.{has_event}
 use Rattle.kind_laws.specs.of_event_log.Breaks.{Among}
 use Rattle.numbered.specs.of_protocol.Numbered.{item_at}
 use Rattle.numbered.specs.of_protocol.Sets.{object_id}
-use Rattle.numbered.specs.of_protocol.Tables.{Beside, ByTask, Maker, Object, OwnTask, Run, WasPut, Worker, first_by, is_pending_task, task_of, with_fault, with_task}
-use Rattle.numbered.specs.of_protocol.Steps.{Here, with_worker}
+use Rattle.numbered.specs.of_protocol.Tables.{Beside, ByTask, ObjectSource, Object, OwnTask, Execution, WasPut, Worker, first_by, is_pending_task, task_of, with_fault, with_task}
+use Rattle.numbered.specs.of_protocol.Steps.{WorkerContext, with_worker}
 use Rattle.numbered.specs.of_protocol.Asking.{rests}
 use Rattle.protocol_legal.specs.Past.{Asking, Past}
 use Rattle.protocol_legal.specs.Lost.{IsKnownFault}
 use Rattle.protocol_legal.specs.Grows.{Grows}
-use Rattle.protocol_legal.specs.Knows.{HasStopped, IsBegun, IsResultOf, IsRow, IsSettled, KnowsMaker, KnowsObject, KnowsResult, KnowsTask, HasAccepted, listed, once}
+use Rattle.protocol_legal.specs.Knows.{HasStopped, IsBegun, IsResultOf, IsRow, IsSettled, KnowsSource, KnowsObject, KnowsResult, KnowsTask, HasAccepted, listed, once}
 use Rattle.protocol_legal.specs.Names.{NamesOf}
 use Rattle.protocol_legal.specs.During.{Frame, SoundHere, past_of}
 use Rattle.protocol_legal.proofs.Numbers.{item-same, item-elsewhere}
@@ -49,7 +49,7 @@ module _ (test : Object → Bool) (cause : ℕ → ℕ → Fault) where
   no_event_in xs w j zero = (refl, refl)
   no_event_in xs w j (suc n) = no_event_with w j (item_at xs j) (resolved_entries test cause (rows_at test cause xs w j (item_at xs j)) w (j + 1) n) (no_event_in (rows_at test cause xs w j (item_at xs j)) w (j + 1) n)
 
-  module _ (f : Frame) (asked : List Asking) (h : Here) (s : SoundHere f asked h) (k : ℕ) (task : OwnTask) (t : OwnTaskAt h k task) (pending : is_pending_task task ≡ true) where
+  module _ (f : Frame) (asked : List Asking) (h : WorkerContext) (s : SoundHere f asked h) (k : ℕ) (task : OwnTask) (t : OwnTaskAt h k task) (pending : is_pending_task task ≡ true) where
     abbrev o : Id
     o = object_id h.me k
 
@@ -131,7 +131,7 @@ module _ (test : Object → Bool) (cause : ℕ → ℕ → Fault) where
       pub new : v ≡ resolved_row test cause h.me j row.new
       pub resolved : flat_map (resolved_in (object_id h.me j)) es ≡ resolved_once test cause h.me j row.new
 
-    then_row : (j : ℕ) (z v : Object) → item_at h.worker.objects j ≡ Some z → first_by j z.maker ≡ k → item_at ys j ≡ Some v → ThenRow j z v
+    then_row : (j : ℕ) (z v : Object) → item_at h.worker.objects j ≡ Some z → first_by j z.source ≡ k → item_at ys j ≡ Some v → ThenRow j z v
     then_row j z v at first atv =
         let pl = place_of f asked h s k task t pending j z at first in
         let row = rested_row f asked h s k task t pending pl.place pl.within in
@@ -166,7 +166,7 @@ module _ (test : Object → Bool) (cause : ℕ → ℕ → Fault) where
           let ko = s.knows.objects (k + i) row.old row.before in (
             own_not_main h (k + i) row.old row.before,
             ko.resolved ∙ ap listed none,
-            reasons (k + i) row.old (was_result f asked h s k task t pending (k + i) row.old row.before row.of row.old.maker refl ko.maker),
+            reasons (k + i) row.old (was_result f asked h s k task t pending (k + i) row.old row.before row.of row.old.source refl ko.source),
           )
 
       event : SoundEvent f asked (goes_to h ys es)
@@ -212,15 +212,15 @@ module _ (test : Object → Bool) (cause : ℕ → ℕ → Fault) where
             spent = λ e. refl;
           }) refl
 
-      maker_then : (j : ℕ) (z v : Object) → (j == k) ≡ false → (m : Maker) → z.maker ≡ m → first_by j m ≡ k → IsResultOf q ys (object_id h.me j) v k (rests task) → KnowsMaker q h.worker.node ys (object_id h.me j) v m
-      maker_then j z v d WasPut e first res = let c : (j == k) ≡ true = grind (arith, nat_tests, first) in absurd (cc)
-      maker_then j z v d (ByTask u) e first res = let c : (j == k) ≡ true = grind (arith, nat_tests, first) in absurd (cc)
-      maker_then j z v d (Beside i) e first res = (rests task, ap (λ i'. task_of (item_at ys i')) first ∙ first_row, subst (λ i'. IsResultOf q ys (object_id h.me j) v i' (rests task)) (sym first) res)
+      source_then : (j : ℕ) (z v : Object) → (j == k) ≡ false → (m : ObjectSource) → z.source ≡ m → first_by j m ≡ k → IsResultOf q ys (object_id h.me j) v k (rests task) → KnowsSource q h.worker.node ys (object_id h.me j) v m
+      source_then j z v d WasPut e first res = let c : (j == k) ≡ true = grind (arith, nat_tests, first) in absurd (cc)
+      source_then j z v d (ByTask u) e first res = let c : (j == k) ≡ true = grind (arith, nat_tests, first) in absurd (cc)
+      source_then j z v d (Beside i) e first res = (rests task, ap (λ i'. task_of (item_at ys i')) first ∙ first_row, subst (λ i'. IsResultOf q ys (object_id h.me j) v i' (rests task)) (sym first) res)
 
       -- of a row that was wanted or not: what doesn't change, and its fault
       pub record Then (j : ℕ) (new v : Object) : Type 0 where
         pub bearer : v.bearer ≡ new.bearer
-        pub maker : v.maker ≡ new.maker
+        pub source : v.source ≡ new.source
         pub is_released : v.is_released ≡ new.is_released
         pub names : NamesOf q.log (object_id h.me j) new → NamesOf q.log (object_id h.me j) v
         pub fault : ((new.fault ≡ None) × (v.fault ≡ Some (cause h.me j)) × (resolved_once test cause h.me j new ≡ cause h.me j ∷ [])) ⊎ ((v.fault ≡ new.fault) × (resolved_once test cause h.me j new ≡ []))
@@ -230,25 +230,25 @@ module _ (test : Object → Bool) (cause : ℕ → ℕ → Fault) where
           at_test (λ b. test new ≡ b → v ≡ (if b then with_fault (cause h.me j) new else new) → Then j new v) (test new)
           (λ b w' e'. record {
             bearer = ap (λ (u : Object). u.bearer) e';
-            maker = ap (λ (u : Object). u.maker) e';
+            source = ap (λ (u : Object). u.source) e';
             is_released = ap (λ (u : Object). u.is_released) e';
             names = λ n'. subst (NamesOf q.log (object_id h.me j)) (sym e') n';
             fault = inl (healthy new b, ap (λ (u : Object). u.fault) e', ap (λ c. if c then cause h.me j ∷ [] else []) b);
           })
           (λ b w' e'. record {
             bearer = ap (λ (u : Object). u.bearer) e';
-            maker = ap (λ (u : Object). u.maker) e';
+            source = ap (λ (u : Object). u.source) e';
             is_released = ap (λ (u : Object). u.is_released) e';
             names = λ n'. subst (NamesOf q.log (object_id h.me j)) (sym e') n';
             fault = inr (ap (λ (u : Object). u.fault) e', ap (λ c. if c then cause h.me j ∷ [] else []) b);
           }) refl e
 
-      group : (j : ℕ) (z v : Object) → item_at h.worker.objects j ≡ Some z → first_by j z.maker ≡ k → item_at ys j ≡ Some v → KnowsObject q y (object_id h.me j) v
+      group : (j : ℕ) (z v : Object) → item_at h.worker.objects j ≡ Some z → first_by j z.source ≡ k → item_at ys j ≡ Some v → KnowsObject q y (object_id h.me j) v
       group j z v at first atv =
           let u = then_row j z v at first atv in
           let row = u.row in
           let ko = s.knows.objects j z at in
-          let km = was_result f asked h s k task t pending j z at first z.maker refl ko.maker in
+          let km = was_result f asked h s k task t pending j z at first z.source refl ko.source in
           let th = then_of j row.new v u.new in
           let bearer : v.bearer ≡ z.bearer = th.bearer ∙ row.bearer ∙ ap (λ (x : Object). x.bearer) u.old in
           let release : v.is_released ≡ z.is_released = th.is_released ∙ row.is_released ∙ ap (λ (x : Object). x.is_released) u.old in
@@ -271,7 +271,7 @@ module _ (test : Object → Bool) (cause : ℕ → ℕ → Fault) where
           let words : resolves_of (object_id h.me j) q.log ≡ listed z.fault ++ resolved_once test cause h.me j row.new = resolves_then j ∙ ap (λ xs'. xs' ++ flat_map (resolved_in (object_id h.me j)) es) ko.resolved ∙ ap (λ ws. listed z.fault ++ ws) u.resolved in
           record {
             bearer = subst (λ b. Among b (bearers_of (object_id h.me j) q.log)) (sym bearer) (word_grows p q way z.bearer (bearer_in (object_id h.me j)) ko.bearer);
-            stopped = subst (λ b. HasStopped q.log b ⊎ ((x : Run) × (h.worker.run ≡ Some x) × (x.attempt ≡ b))) (sym bearer) (kept_stop p q way h.worker ys z.bearer ko.stopped);
+            stopped = subst (λ b. HasStopped q.log b ⊎ ((x : Execution) × (h.worker.run ≡ Some x) × (x.attempt ≡ b))) (sym bearer) (kept_stop p q way h.worker ys z.bearer ko.stopped);
             resolved = elim th.fault [
               | inl a ↦ words ∙ ap (λ r'. listed r' ++ resolved_once test cause h.me j row.new) (sym new_fault ∙ a.0) ∙ a.2 ∙ ap listed (sym a.1)
               | inr a ↦ words ∙ ap (λ ws. listed z.fault ++ ws) a.1 ∙ append-nil (listed z.fault) ∙ ap listed (sym new_fault ∙ sym a.0)
@@ -283,21 +283,21 @@ module _ (test : Object → Bool) (cause : ℕ → ℕ → Fault) where
               | inr a ↦ way.faults g (ko.known g (sym new_fault ∙ sym a.0 ∙ e))
             ];
             released = same_word p q way (released_in (object_id h.me j)) (none_in test cause (released_in (object_id h.me j)) (λ _ _. refl) xs h.me k r) ∙ ko.released ∙ ap (λ b. once b (object_id h.me j)) (sym release);
-            maker =
-                at_test (λ b. (j == k) ≡ b → KnowsMaker q h.worker.node ys (object_id h.me j) v v.maker) (j == k)
+            source =
+                at_test (λ b. (j == k) ≡ b → KnowsSource q h.worker.node ys (object_id h.me j) v v.source) (j == k)
                 (λ b _. let j_is = eqb-true j k b in
                 let at_k : ((k + u.place.place) == k) ≡ true = ap (λ i. i == k) (sym u.place.serial) ∙ b in
-                subst (KnowsMaker q h.worker.node ys (object_id h.me j) v) (sym (th.maker ∙ row.at_first at_k))
+                subst (KnowsSource q h.worker.node ys (object_id h.me j) v) (sym (th.source ∙ row.at_first at_k))
                 (subst (λ i. KnowsTask q (object_id h.me i) ys (rests task)) (sym j_is) task_now, subst (λ i. IsResultOf q ys (object_id h.me j) v i (rests task)) (sym j_is) res))
                 (λ b _. let at_k : ((k + u.place.place) == k) ≡ false = ap (λ i. i == k) (sym u.place.serial) ∙ b in
-                let same_maker : v.maker ≡ z.maker = th.maker ∙ row.else_ at_k ∙ ap (λ (x : Object). x.maker) u.old in
-                subst (KnowsMaker q h.worker.node ys (object_id h.me j) v) (sym same_maker) (maker_then j z v b z.maker refl first res)) refl;
+                let same_source : v.source ≡ z.source = th.source ∙ row.else_ at_k ∙ ap (λ (x : Object). x.source) u.old in
+                subst (KnowsSource q h.worker.node ys (object_id h.me j) v) (sym same_source) (source_then j z v b z.source refl first res)) refl;
             names = th.names (names_grow p q way (object_id h.me j) row.new.ids row.new.added row.new.dead_holder new_names);
           }
 
       -- ---- all objects, and the step
 
-      same : (j : ℕ) (z : Object) → item_at h.worker.objects j ≡ Some z → (first_by j z.maker == k) ≡ false → item_at ys j ≡ Some z
+      same : (j : ℕ) (z : Object) → item_at h.worker.objects j ≡ Some z → (first_by j z.source == k) ≡ false → item_at ys j ≡ Some z
       same j z at d =
           let out = outside f asked h s k task t pending j (not_here f asked h s k task t pending j z at d) in
           row_out test cause xs h.me k r j out ∙ item-elsewhere h.worker.objects j k (with_task (rests task)) (not_first f asked h s k task t pending j out) ∙ at

@@ -7,21 +7,21 @@ use Rattle.kind_laws.specs.of_event_log.Breaks.{Among}
 use Rattle.kind_laws.specs.of_event_log.Words.{bearers_of}
 use Rattle.numbered.specs.of_protocol.Numbered.{item_at, changed_at}
 use Rattle.numbered.specs.of_protocol.Sets.{object_id}
-use Rattle.numbered.specs.of_protocol.Tables.{Beside, ByTask, Maker, Object, Run, WasPut, Worker, first_by, without_askers}
-use Rattle.numbered.specs.of_protocol.Steps.{Here, with_worker}
+use Rattle.numbered.specs.of_protocol.Tables.{Beside, ByTask, ObjectSource, Object, Execution, WasPut, Worker, first_by, without_askers}
+use Rattle.numbered.specs.of_protocol.Steps.{WorkerContext, with_worker}
 use Rattle.protocol_legal.specs.Past.{Asking, Past}
-use Rattle.protocol_legal.specs.Knows.{HasAccepted, HasStopped, IsPartOf, IsPlaced, IsSpent, KnowsMaker, KnowsPut, KnowsResult, kept_until, listed, once}
+use Rattle.protocol_legal.specs.Knows.{HasAccepted, HasStopped, IsPartOf, IsPlaced, IsSpent, KnowsSource, KnowsPut, KnowsResult, kept_until, listed, once}
 use Rattle.protocol_legal.specs.Names.{NamesOf}
 use Rattle.protocol_legal.specs.During.{Frame, SoundHere}
 use Rattle.protocol_legal.proofs.Growing.{grows_same}
-use Rattle.protocol_legal.proofs.Keeping.{maker_quiet, rows_stay}
+use Rattle.protocol_legal.proofs.Keeping.{source_quiet, rows_stay}
 use Rattle.protocol_legal.proofs.Steps.{StaysWanted, here_changes, nothing_said, now, with_changed}
 
-module _ (f : Frame) (asked : List Asking) (h : Here) (s : SoundHere f asked h) (k : ℕ) (fn : Object → Object)
-    (same_maker : (z : Object) → (fn z).maker ≡ z.maker) (same_release : (z : Object) → (fn z).is_released ≡ z.is_released) (same_fault : (z : Object) → (fn z).fault ≡ z.fault) (same_bearer : (z : Object) → (fn z).bearer ≡ z.bearer)
+module _ (f : Frame) (asked : List Asking) (h : WorkerContext) (s : SoundHere f asked h) (k : ℕ) (fn : Object → Object)
+    (same_source : (z : Object) → (fn z).source ≡ z.source) (same_release : (z : Object) → (fn z).is_released ≡ z.is_released) (same_fault : (z : Object) → (fn z).fault ≡ z.fault) (same_bearer : (z : Object) → (fn z).bearer ≡ z.bearer)
     (stays : StaysWanted f asked h s k fn)
     (puts : (z : Object) → item_at h.worker.objects k ≡ Some z → KnowsPut (now f asked h s).log h.worker.node (object_id h.me k) z → KnowsPut (now f asked h s).log h.worker.node (object_id h.me k) (fn z))
-    (results : (z : Object) → item_at h.worker.objects k ≡ Some z → (z.maker ≡ WasPut → ⊥) → (first : Id) (spec : Birth) (place : ℕ) → IsPartOf (now f asked h s).log (object_id h.me k) first spec place → (pending : Bool) → KnowsResult (now f asked h s).log (object_id h.me k) first place z pending → KnowsResult (now f asked h s).log (object_id h.me k) first place (fn z) pending)
+    (results : (z : Object) → item_at h.worker.objects k ≡ Some z → (z.source ≡ WasPut → ⊥) → (first : Id) (spec : Birth) (place : ℕ) → IsPartOf (now f asked h s).log (object_id h.me k) first spec place → (pending : Bool) → KnowsResult (now f asked h s).log (object_id h.me k) first place z pending → KnowsResult (now f asked h s).log (object_id h.me k) first place (fn z) pending)
     (names_stay : (z : Object) → item_at h.worker.objects k ≡ Some z → NamesOf (now f asked h s).log (object_id h.me k) z → NamesOf (now f asked h s).log (object_id h.me k) (fn z)) where
   abbrev p : Past
   p = now f asked h s
@@ -32,24 +32,24 @@ module _ (f : Frame) (asked : List Asking) (h : Here) (s : SoundHere f asked h) 
   abbrev ys : List Object
   ys = changed_at h.worker.objects k fn
 
-  moves : (z : Object) → item_at h.worker.objects k ≡ Some z → (m : Maker) → z.maker ≡ m → KnowsMaker p h.worker.node ys o z m → KnowsMaker p h.worker.node ys o (fn z) m
+  moves : (z : Object) → item_at h.worker.objects k ≡ Some z → (m : ObjectSource) → z.source ≡ m → KnowsSource p h.worker.node ys o z m → KnowsSource p h.worker.node ys o (fn z) m
   moves z i WasPut e km = puts z i km
   moves z i (ByTask task) e km = (km.0, (km.1.0, km.1.1, km.1.2, km.1.3, results z i (λ d. absurd (cc)) (object_id h.me k) task.spec km.1.0 km.1.3 (Rattle.numbered.specs.of_protocol.Tables.is_pending_task task) km.1.4))
   moves z i (Beside n) e km = (km.0, km.1, (km.2.0, km.2.1, km.2.2, km.2.3, results z i (λ d. absurd (cc)) (object_id h.me n) km.0.spec km.2.0 km.2.3 (Rattle.numbered.specs.of_protocol.Tables.is_pending_task km.0) km.2.4))
 
   pub changed_sound : SoundHere f asked (with_worker h (with_changed h.worker k fn))
   changed_sound =
-      here_changes f asked h s k fn same_maker same_release stays
+      here_changes f asked h s k fn same_source same_release stays
       (λ z i ko.
-      let stay = rows_stay p p (grows_same p) nothing_said f.setting h.me h.worker k fn s.there.calm s.knows same_maker same_release stays in
-      let km = maker_quiet p p (grows_same p) (λ n. Unit {0}) h.worker.objects ys stay o h.worker.node z z.maker i refl (record { runs = refl; accepts = λ j. refl; asked = λ j l a. a }) tt ko.maker in
+      let stay = rows_stay p p (grows_same p) nothing_said f.setting h.me h.worker k fn s.there.calm s.knows same_source same_release stays in
+      let km = source_quiet p p (grows_same p) (λ n. Unit {0}) h.worker.objects ys stay o h.worker.node z z.source i refl (record { runs = refl; accepts = λ j. refl; asked = λ j l a. a }) tt ko.source in
       record {
         bearer = subst (λ b. Among b (bearers_of o p.log)) (sym (same_bearer z)) ko.bearer;
-        stopped = subst (λ b. HasStopped p.log b ⊎ ((run : Run) × (h.worker.run ≡ Some run) × (run.attempt ≡ b))) (sym (same_bearer z)) ko.stopped;
+        stopped = subst (λ b. HasStopped p.log b ⊎ ((run : Execution) × (h.worker.run ≡ Some run) × (run.attempt ≡ b))) (sym (same_bearer z)) ko.stopped;
         resolved = ko.resolved ∙ ap listed (sym (same_fault z));
         known = λ g e. ko.known g (sym (same_fault z) ∙ e);
         released = ko.released ∙ ap (λ b. once b o) (sym (same_release z));
-        maker = subst (KnowsMaker p h.worker.node ys o (fn z)) (sym (same_maker z)) (moves z i z.maker refl km);
+        source = subst (KnowsSource p h.worker.node ys o (fn z)) (sym (same_source z)) (moves z i z.source refl km);
         names = names_stay z i ko.names;
       })
 
@@ -77,7 +77,7 @@ plain_result log o first place pending z v es ep ef er ek r = record {
     placed number (inr a) = inr a
 
 -- askers are no part of what is known
-pub without_askers_sound : (f : Frame) (asked : List Asking) (h : Here) (s : SoundHere f asked h) (k : ℕ) → SoundHere f asked (with_worker h (with_changed h.worker k without_askers))
+pub without_askers_sound : (f : Frame) (asked : List Asking) (h : WorkerContext) (s : SoundHere f asked h) (k : ℕ) → SoundHere f asked (with_worker h (with_changed h.worker k without_askers))
 without_askers_sound f asked h s k =
     changed_sound f asked h s k without_askers (λ z. refl) (λ z. refl) (λ z. refl) (λ z. refl) (λ z i p e. e)
     (λ z i kp. record { value = kp.value; born = kp.born; part = kp.part; unbegun = kp.unbegun; settled = kp.settled; stored = kp.stored; placed = kp.placed })

@@ -11,8 +11,8 @@ use Rattle.kind_laws.specs.of_event_log.Entries.{main_attempt}
 use Rattle.numbered.specs.of_protocol.Numbered.{item_at, changed_at}
 use Rattle.numbered.specs.of_protocol.Sets.{fault, has, is_empty}
 use Rattle.numbered.specs.of_protocol.Stores.{copy_in, looked_up}
-use Rattle.numbered.specs.of_protocol.Tables.{Fetching, Object, OwnTask, Phase, Ready, Out, Waits, HasEnded, HasFaulted, Run, first_by, has_content, has_stopped, is_lost, is_pending_task, is_waiting_for, knows_dead, live_place, owner_of, settled_number, task_by, with_fault, with_task, without_askers, without_place, without_places}
-use Rattle.numbered.specs.of_protocol.Steps.{Here, changes, object_at, own_id, own_object, store_here, with_phase, with_run, with_store}
+use Rattle.numbered.specs.of_protocol.Tables.{Fetching, Object, OwnTask, Phase, Ready, Out, Waits, HasEnded, HasFaulted, Execution, first_by, has_content, has_stopped, is_lost, is_pending_task, is_waiting_for, knows_dead, live_place, owner_of, settled_number, task_by, with_fault, with_task, without_askers, without_place, without_places}
+use Rattle.numbered.specs.of_protocol.Steps.{WorkerContext, changes, object_at, own_id, own_object, store_here, with_phase, with_run, with_store}
 use Rattle.numbered.specs.of_protocol.Runs.{faults, faults_at, faults_by, gets, gets_at, gets_by, gives_slot_back, leaves, leaves_by, tells, tells_stop, is_heard, with_fetching, with_fetching_at, with_fetching_by}
 use Rattle.numbered.specs.of_protocol.Asking.{answers_faulted, answers_faulted_by, answers_gone, faults_if_waiting, next_attempt, requests, resolves, tells_gone}
 use Rattle.numbered.specs.of_protocol.Recovery.{first_stop, gives_up, is_lost_here, members, recovers, recovers_by, remakes, remakes_by, remakes_one}
@@ -26,7 +26,7 @@ pub record IsThere (xs : List Object) (j : ℕ) : Type 0 where
   pub some : is_some object.settled ≡ true
 
 -- what has a content in one table has one in the other
-abbrev pub Keeps : Here → Here → Type 0
+abbrev pub Keeps : WorkerContext → WorkerContext → Type 0
 Keeps h g = (j : ℕ) → IsThere h.worker.objects j → IsThere g.worker.objects j
 
 pub keeps_changed : (xs : List Object) (k : ℕ) (fn : Object → Object) → ((z : Object) → (fn z).settled ≡ z.settled) → (j : ℕ) → IsThere xs j → IsThere (changed_at xs k fn) j
@@ -38,7 +38,7 @@ keeps_changed xs k fn same j i =
 
 -- ---- the own attempt
 
-leaves_same : (h : Here) (run : Run) → (leaves h run).worker.objects ≡ h.worker.objects
+leaves_same : (h : WorkerContext) (run : Execution) → (leaves h run).worker.objects ≡ h.worker.objects
 leaves_same h run =
     at_test (λ b. (if b then with_run h (record run { is_acknowledged = true }) else if knows_dead h.worker (owner_of run) then is_heard (tells h run) run else tells h run).worker.objects ≡ h.worker.objects) (same_attempt run.attempt main_attempt)
     (λ b. refl)
@@ -51,72 +51,72 @@ leaves_same h run =
     told (HasEnded cs) = refl
     told (HasFaulted g) = refl
 
-leaves_by_same : (h : Here) (r : Option Run) → (leaves_by h r).worker.objects ≡ h.worker.objects
+leaves_by_same : (h : WorkerContext) (r : Option Execution) → (leaves_by h r).worker.objects ≡ h.worker.objects
 leaves_by_same h None = refl
 leaves_by_same h (Some run) =
     at_test (λ b. (if b then leaves h (record run { is_over = true }) else h).worker.objects ≡ h.worker.objects) (has_stopped run.phase && not run.is_over && is_empty run.holds) (λ b. leaves_same h (record run { is_over = true })) (λ b. refl)
 
-faults_at_same : (h : Here) (run : Run) (f : Fault) (phase : Phase) → (faults_at h run f phase).worker.objects ≡ h.worker.objects
+faults_at_same : (h : WorkerContext) (run : Execution) (f : Fault) (phase : Phase) → (faults_at h run f phase).worker.objects ≡ h.worker.objects
 faults_at_same h run f (Waits y g) = leaves_by_same (gives_slot_back (Rattle.numbered.specs.of_protocol.Steps.logs (with_phase h run (HasFaulted f)) (Rattle.kind_laws.specs.of_event_log.Entries.Faulted run.attempt y f))) (Some (record run { phase = HasFaulted f }))
 faults_at_same h run f Ready = refl
 faults_at_same h run f (Out j) = refl
 faults_at_same h run f (HasEnded cs) = refl
 faults_at_same h run f (HasFaulted g) = refl
 
-faults_same : (h : Here) (f : Fault) → (faults h f).worker.objects ≡ h.worker.objects
+faults_same : (h : WorkerContext) (f : Fault) → (faults h f).worker.objects ≡ h.worker.objects
 faults_same h f = by h.worker.run
   where
-    by : (r : Option Run) → (faults_by h f r).worker.objects ≡ h.worker.objects
+    by : (r : Option Execution) → (faults_by h f r).worker.objects ≡ h.worker.objects
     by None = refl
     by (Some run) = faults_at_same h run f run.phase
 
-gets_same : (h : Here) (c : Outcome) → (gets h c).worker.objects ≡ h.worker.objects
+gets_same : (h : WorkerContext) (c : Outcome) → (gets h c).worker.objects ≡ h.worker.objects
 gets_same h c = by h.worker.run
   where
-    at : (run : Run) (phase : Phase) → (gets_at h run c phase).worker.objects ≡ h.worker.objects
+    at : (run : Execution) (phase : Phase) → (gets_at h run c phase).worker.objects ≡ h.worker.objects
     at run (Waits y g) = refl
     at run Ready = refl
     at run (Out j) = refl
     at run (HasEnded cs) = refl
     at run (HasFaulted g) = refl
 
-    by : (r : Option Run) → (gets_by h c r).worker.objects ≡ h.worker.objects
+    by : (r : Option Execution) → (gets_by h c r).worker.objects ≡ h.worker.objects
     by None = refl
     by (Some run) = at run run.phase
 
-fetching_same : (h : Here) (f : Option Fetching) → (with_fetching h f).worker.objects ≡ h.worker.objects
+fetching_same : (h : WorkerContext) (f : Option Fetching) → (with_fetching h f).worker.objects ≡ h.worker.objects
 fetching_same h f = by h.worker.run
   where
-    at : (run : Run) (phase : Phase) → (with_fetching_at h run f phase).worker.objects ≡ h.worker.objects
+    at : (run : Execution) (phase : Phase) → (with_fetching_at h run f phase).worker.objects ≡ h.worker.objects
     at run (Waits y g) = refl
     at run Ready = refl
     at run (Out j) = refl
     at run (HasEnded cs) = refl
     at run (HasFaulted g) = refl
 
-    by : (r : Option Run) → (with_fetching_by h f r).worker.objects ≡ h.worker.objects
+    by : (r : Option Execution) → (with_fetching_by h f r).worker.objects ≡ h.worker.objects
     by None = refl
     by (Some run) = at run run.phase
 
-keeps_faults : (h : Here) (f : Fault) → Keeps h (faults h f)
+keeps_faults : (h : WorkerContext) (f : Fault) → Keeps h (faults h f)
 keeps_faults h f j i = subst (λ xs. IsThere xs j) (sym (faults_same h f)) i
 
 -- ---- whoever waits for a resolved object
 
-tells_gone_same : (h : Here) (ws : List ℕ) (o : Id) (g : Fault) → (tells_gone h ws o g).worker.objects ≡ h.worker.objects
+tells_gone_same : (h : WorkerContext) (ws : List ℕ) (o : Id) (g : Fault) → (tells_gone h ws o g).worker.objects ≡ h.worker.objects
 tells_gone_same h [] o g = refl
 tells_gone_same h (w ∷ ws) o g = tells_gone_same (Rattle.numbered.specs.of_protocol.Steps.says h w (Rattle.numbered.specs.of_protocol.Messages.Gone o g)) ws o g
 
-keeps_waiting : (h : Here) (o : Id) (f : Fault) → Keeps h (faults_if_waiting h o f)
+keeps_waiting : (h : WorkerContext) (o : Id) (f : Fault) → Keeps h (faults_if_waiting h o f)
 keeps_waiting h o f = at_test (λ b. Keeps h (if b then faults h f else h)) (is_waiting_for h.worker o) (λ b. keeps_faults h f) (λ b j i. i)
 
-keeps_gone : (h : Here) (o : Id) (x : Object) (r : Option Fault) → Keeps h (answers_gone h o x r)
+keeps_gone : (h : WorkerContext) (o : Id) (x : Object) (r : Option Fault) → Keeps h (answers_gone h o x r)
 keeps_gone h o x None j i = i
 keeps_gone h o x (Some f) j i =
     keeps_waiting (tells_gone (changes h o without_askers) x.askers o f) o f j
     (subst (λ xs. IsThere xs j) (sym (tells_gone_same (changes h o without_askers) x.askers o f)) (keeps_changed h.worker.objects o.serial without_askers (λ z. refl) j i))
 
-keeps_faulted : (h : Here) (o : Id) → Keeps h (answers_faulted h o)
+keeps_faulted : (h : WorkerContext) (o : Id) → Keeps h (answers_faulted h o)
 keeps_faulted h o = by (object_at h o)
   where
     by : (r : Option Object) → Keeps h (answers_faulted_by h o r)
@@ -125,32 +125,32 @@ keeps_faulted h o = by (object_at h o)
 
 -- ---- a lost object is made again
 
-keeps_requests : (h : Here) (o : Id) (task : OwnTask) → Keeps h (requests h o task)
+keeps_requests : (h : WorkerContext) (o : Id) (task : OwnTask) → Keeps h (requests h o task)
 keeps_requests h o task j i = keeps_changed h.worker.objects o.serial (with_task (record task { progress = Rattle.numbered.specs.of_protocol.Tables.AskedAt 0 h.worker.node })) (λ z. refl) j i
 
-keeps_remakes_by : (h : Here) (k : ℕ) (r : Option OwnTask) → Keeps h (remakes_by h k r)
+keeps_remakes_by : (h : WorkerContext) (k : ℕ) (r : Option OwnTask) → Keeps h (remakes_by h k r)
 keeps_remakes_by h k None = λ j i. i
 keeps_remakes_by h k (Some task) = at_test (λ b. Keeps h (if b then h else requests h (own_id h k) (next_attempt task))) (is_pending_task task) (λ b j i. i) (λ b. keeps_requests h (own_id h k) (next_attempt task))
 
-keeps_remakes_one : (h : Here) (k : ℕ) (r : Option Object) → Keeps h (remakes_one h k r)
+keeps_remakes_one : (h : WorkerContext) (k : ℕ) (r : Option Object) → Keeps h (remakes_one h k r)
 keeps_remakes_one h k None = λ j i. i
-keeps_remakes_one h k (Some x) = keeps_remakes_by h (first_by k x.maker) (task_by h.worker.objects x.maker)
+keeps_remakes_one h k (Some x) = keeps_remakes_by h (first_by k x.source) (task_by h.worker.objects x.source)
 
-keeps_remakes : (h : Here) (ks : List ℕ) → Keeps h (remakes h ks)
+keeps_remakes : (h : WorkerContext) (ks : List ℕ) → Keeps h (remakes h ks)
 keeps_remakes h [] j i = i
 keeps_remakes h (k ∷ ks) j i = keeps_remakes (remakes_one h k (own_object h k)) ks j (keeps_remakes_one h k (own_object h k) j i)
 
-keeps_resolves : (h : Here) (o : Id) (f : Fault) → Keeps h (resolves h o f)
+keeps_resolves : (h : WorkerContext) (o : Id) (f : Fault) → Keeps h (resolves h o f)
 keeps_resolves h o f j i = keeps_changed h.worker.objects o.serial (with_fault f) (λ z. refl) j i
 
-keeps_gives_up : (h : Here) (o : Id) (f : Fault) → Keeps h (gives_up h o f)
+keeps_gives_up : (h : WorkerContext) (o : Id) (f : Fault) → Keeps h (gives_up h o f)
 keeps_gives_up h o f =
     at_test (λ b. Keeps h (if b then answers_faulted (resolves h o f) o else answers_faulted (answers_faulted (resolves (resolves h f.object f) o f) f.object) o)) (same_id f.object o)
     (λ b j i. keeps_faulted (resolves h o f) o j (keeps_resolves h o f j i))
     (λ b j i. let two = resolves (resolves h f.object f) o f in
     keeps_faulted (answers_faulted two f.object) o j (keeps_faulted two f.object j (keeps_resolves (resolves h f.object f) o f j (keeps_resolves h f.object f j i))))
 
-keeps_recovers : (h : Here) (o : Id) → Keeps h (recovers h o)
+keeps_recovers : (h : WorkerContext) (o : Id) → Keeps h (recovers h o)
 keeps_recovers h o = by (first_stop h (members h o.serial))
   where
     by : (r : Option Fault) → Keeps h (recovers_by h o (members h o.serial) r)
@@ -159,7 +159,7 @@ keeps_recovers h o = by (first_stop h (members h o.serial))
 
 -- ---- the own attempt needs an own object
 
-keeps_elsewhere : (h : Here) (o : Id) (x : Object) → Keeps h (looks_elsewhere h o x)
+keeps_elsewhere : (h : WorkerContext) (o : Id) (x : Object) → Keeps h (looks_elsewhere h o x)
 keeps_elsewhere h o x = by (live_place h.worker x.places)
   where
     by : (r : Option ℕ) → Keeps h (looks_elsewhere_by h o x r)
@@ -169,7 +169,7 @@ keeps_elsewhere h o x = by (live_place h.worker x.places)
         (λ b j i. keeps_recovers g o j (keeps_changed h.worker.objects o.serial without_places (λ z. refl) j i)) (λ b j i. keeps_changed h.worker.objects o.serial without_places (λ z. refl) j i)
     by (Some n) = λ j i. subst (λ xs. IsThere xs j) (sym (fetching_same h (Some (record { number = settled_number x; node = n })))) i
 
-keeps_at_places : (h : Here) (o : Id) (x : Object) → Keeps h (looks_at_places h o x)
+keeps_at_places : (h : WorkerContext) (o : Id) (x : Object) → Keeps h (looks_at_places h o x)
 keeps_at_places h o x =
     at_test (λ b. Keeps h (if b then looks_here_by h o x (copy_in (store_here h) o (settled_number x)) else looks_elsewhere h o x)) (has x.places h.worker.node)
     (λ b. by (copy_in (store_here h) o (settled_number x))) (λ b. keeps_elsewhere h o x)
@@ -178,18 +178,18 @@ keeps_at_places h o x =
     by None j i = keeps_elsewhere (changes h o (without_place h.worker.node)) o (without_place h.worker.node x) j (keeps_changed h.worker.objects o.serial (without_place h.worker.node) (λ z. refl) j i)
     by (Some c) j i = subst (λ xs. IsThere xs j) (sym (gets_same (with_store h (looked_up (store_here h) o (settled_number x))) c)) i
 
-keeps_looks : (h : Here) (o : Id) (x : Object) → Keeps h (looks_for h o x)
+keeps_looks : (h : WorkerContext) (o : Id) (x : Object) → Keeps h (looks_for h o x)
 keeps_looks h o x = by x.kept
   where
     by : (r : Option Outcome) → Keeps h (looks_for_by h o x r)
     by None = keeps_at_places h o x
     by (Some c) = λ j i. subst (λ xs. IsThere xs j) (sym (gets_same h c)) i
 
-keeps_released : (h : Here) (r : Option Id) → Keeps h (needs_released h r)
+keeps_released : (h : WorkerContext) (r : Option Id) → Keeps h (needs_released h r)
 keeps_released h None = λ j i. i
 keeps_released h (Some e) = keeps_faults h (fault OwnerDied e)
 
-keeps_needs_at : (h : Here) (o : Id) (r : Option Object) → Keeps h (needs_at h o r)
+keeps_needs_at : (h : WorkerContext) (o : Id) (r : Option Object) → Keeps h (needs_at h o r)
 keeps_needs_at h o None = λ j i. i
 keeps_needs_at h o (Some x) = by x.fault
   where
@@ -200,17 +200,17 @@ keeps_needs_at h o (Some x) = by x.fault
         (λ c. at_test (λ d. Keeps h (if d then needs_released h x.dead_holder else h)) x.is_released (λ d. keeps_released h x.dead_holder) (λ d j i. i)))
     by (Some f) = keeps_faults h f
 
-keeps_needs : (h : Here) (o : Id) → Keeps h (needs_own_if_waiting h o)
+keeps_needs : (h : WorkerContext) (o : Id) → Keeps h (needs_own_if_waiting h o)
 keeps_needs h o =
     at_test (λ b. Keeps h (if b then needs_own h o else h)) (is_waiting_for h.worker o)
     (λ b j i. keeps_needs_at (with_fetching h None) o (object_at h o) j (subst (λ xs. IsThere xs j) (sym (fetching_same h None)) i)) (λ b j i. i)
 
-tells_places_same : (h : Here) (ws : List ℕ) (o : Id) (x : Object) → (tells_places h ws o x).worker.objects ≡ h.worker.objects
+tells_places_same : (h : WorkerContext) (ws : List ℕ) (o : Id) (x : Object) → (tells_places h ws o x).worker.objects ≡ h.worker.objects
 tells_places_same h [] o x = refl
 tells_places_same h (w ∷ ws) o x = tells_places_same (Rattle.numbered.specs.of_protocol.Steps.says h w (Rattle.numbered.specs.of_protocol.Messages.At o (settled_number x) x.places x.kept)) ws o x
 
 -- whoever waits for an object is answered
-pub keeps_answers : (h : Here) (o : Id) → Keeps h (answers_settled h o)
+pub keeps_answers : (h : WorkerContext) (o : Id) → Keeps h (answers_settled h o)
 keeps_answers h o = by (object_at h o)
   where
     by : (r : Option Object) → Keeps h (answers_settled_by h o r)

@@ -7,21 +7,21 @@ use Rattle.meaning.specs.Values.{Id, results_of}
 use Rattle.meaning.proofs.BirthLaws.{at_test}
 use Rattle.numbered.specs.of_protocol.Numbered.{item_at, changed_at}
 use Rattle.numbered.specs.of_protocol.Sets.{object_id}
-use Rattle.numbered.specs.of_protocol.Tables.{Beside, ByTask, Maker, Object, OwnTask, WasPut, Worker, first_by, is_pending_task, is_wanted, task_in, task_of, with_task}
+use Rattle.numbered.specs.of_protocol.Tables.{Beside, ByTask, ObjectSource, Object, OwnTask, WasPut, Worker, first_by, is_pending_task, is_wanted, task_in, task_of, with_task}
 use Rattle.protocol_legal.specs.Past.{Past}
 use Rattle.protocol_legal.specs.Grows.{Grows}
 use Rattle.protocol_legal.specs.Names.{NamesOf}
-use Rattle.protocol_legal.specs.Knows.{IsPartOf, IsResultOf, IsRow, IsWanted, KnowsMaker, KnowsObject, KnowsResult, KnowsTask}
+use Rattle.protocol_legal.specs.Knows.{IsPartOf, IsResultOf, IsRow, IsWanted, KnowsSource, KnowsObject, KnowsResult, KnowsTask}
 use Rattle.protocol_legal.proofs.Numbers.{item-same, item-elsewhere}
 use Rattle.protocol_legal.proofs.Growing.{part_grows, word_grows}
 use Rattle.protocol_legal.proofs.Names.{names_grow}
 use Rattle.protocol_legal.proofs.Keeping.{IsQuiet, IsQuietTask, RowsStay, RunStays, object_quiet, same_word, stops_or_runs}
 
 -- the object of a task that stands with another one isn't that one
-differs : (j k : ℕ) (m : Maker) → (first_by j m == k) ≡ false → (j == k) ≡ true → (task : OwnTask) → m ≡ ByTask task → ⊥
+differs : (j k : ℕ) (m : ObjectSource) → (first_by j m == k) ≡ false → (j == k) ≡ true → (task : OwnTask) → m ≡ ByTask task → ⊥
 differs j k m d e task f = let g : (j == k) ≡ false = ap (λ n. n == k) (sym (ap (first_by j) f)) ∙ d in absurd (cc)
 
-module _ (p q : Past) (g : Grows p q) (x : Worker) (w k : ℕ) (ob : Object) (task next : OwnTask) (there : item_at x.objects k ≡ Some ob) (maker : ob.maker ≡ ByTask task) (same_spec : next.spec ≡ task.spec)
+module _ (p q : Past) (g : Grows p q) (x : Worker) (w k : ℕ) (ob : Object) (task next : OwnTask) (there : item_at x.objects k ≡ Some ob) (source : ob.source ≡ ByTask task) (same_spec : next.spec ≡ task.spec)
     (knows : (j : ℕ) (z : Object) → item_at x.objects j ≡ Some z → KnowsObject p x (object_id w j) z)
     (others : (j : ℕ) → (j == k) ≡ false → IsQuietTask p q g (object_id w j)) (quiet : (o : Id) → IsQuiet p q g o) where
   abbrev ys : List Object
@@ -40,13 +40,13 @@ module _ (p q : Past) (g : Grows p q) (x : Worker) (w k : ℕ) (ob : Object) (ta
   elsewhere j z i d = item-elsewhere x.objects j k (with_task next) d ∙ i
 
   -- an object that stands with another task is another one
-  not_first : (j : ℕ) (z : Object) → item_at x.objects j ≡ Some z → apart (first_by j z.maker) → (j == k) ≡ false
+  not_first : (j : ℕ) (z : Object) → item_at x.objects j ≡ Some z → apart (first_by j z.source) → (j == k) ≡ false
   not_first j z i a =
       at_test (λ b. (j == k) ≡ b → b ≡ false) (j == k)
       (λ b e. let same = eqb-true j k e in
       let i' : item_at x.objects k ≡ Some z = ap (item_at x.objects) (sym same) ∙ i in
       let is : ob ≡ z = cc in
-      absurd (differs j k z.maker a e task (ap (λ (v : Object). v.maker) (sym is) ∙ maker)))
+      absurd (differs j k z.source a e task (ap (λ (v : Object). v.source) (sym is) ∙ source)))
       (λ b e. refl) refl
 
   rows_apart : RowsStay apart x.objects ys
@@ -115,11 +115,11 @@ module _ (p q : Past) (g : Grows p q) (x : Worker) (w k : ℕ) (ob : Object) (ta
 
   module _ (now : KnowsTask q first ys next) (moves : Moves) where
     -- any object but the first
-    other_maker : (j : ℕ) (z : Object) → item_at x.objects j ≡ Some z → (j == k) ≡ false → (m : Maker) → z.maker ≡ m → first_by j m ≡ k → KnowsMaker p x.node x.objects (object_id w j) z m → KnowsMaker q x.node ys (object_id w j) z m
-    other_maker j z i d WasPut e f h = let c : (j == k) ≡ true = grind (arith, nat_tests, f) in absurd (cc)
-    other_maker j z i d (ByTask t) e f h = let c : (j == k) ≡ true = grind (arith, nat_tests, f) in absurd (cc)
-    other_maker j z i d (Beside n) e f h =
-        let was : task_of (item_at x.objects n) ≡ Some task = ap (λ v. task_of (item_at x.objects v)) f ∙ ap task_of there ∙ ap task_in maker in
+    other_source : (j : ℕ) (z : Object) → item_at x.objects j ≡ Some z → (j == k) ≡ false → (m : ObjectSource) → z.source ≡ m → first_by j m ≡ k → KnowsSource p x.node x.objects (object_id w j) z m → KnowsSource q x.node ys (object_id w j) z m
+    other_source j z i d WasPut e f h = let c : (j == k) ≡ true = grind (arith, nat_tests, f) in absurd (cc)
+    other_source j z i d (ByTask t) e f h = let c : (j == k) ≡ true = grind (arith, nat_tests, f) in absurd (cc)
+    other_source j z i d (Beside n) e f h =
+        let was : task_of (item_at x.objects n) ≡ Some task = ap (λ v. task_of (item_at x.objects v)) f ∙ ap task_of there ∙ ap task_in source in
         let found = h.1 in
         let same : h.0 ≡ task = cc in (
           next,
@@ -128,23 +128,23 @@ module _ (p q : Past) (g : Grows p q) (x : Worker) (w k : ℕ) (ob : Object) (ta
               (moved j z (λ place part r. moves j place z i part r) (subst (λ v. IsResultOf p x.objects (object_id w j) z v task) f (subst (λ t. IsResultOf p x.objects (object_id w j) z n t) same h.2))),
         )
 
-    with_maker : (j : ℕ) (z v : Object) → v.bearer ≡ z.bearer → v.fault ≡ z.fault → v.is_released ≡ z.is_released → KnowsObject p x (object_id w j) z → NamesOf q.log (object_id w j) v → KnowsMaker q x.node ys (object_id w j) v v.maker → KnowsObject q y (object_id w j) v
-    with_maker j z v eb ef er h na m = record {
+    with_source : (j : ℕ) (z v : Object) → v.bearer ≡ z.bearer → v.fault ≡ z.fault → v.is_released ≡ z.is_released → KnowsObject p x (object_id w j) z → NamesOf q.log (object_id w j) v → KnowsSource q x.node ys (object_id w j) v v.source → KnowsObject q y (object_id w j) v
+    with_source j z v eb ef er h na m = record {
       bearer = subst (λ b. Rattle.kind_laws.specs.of_event_log.Breaks.Among b (Rattle.kind_laws.specs.of_event_log.Words.bearers_of (object_id w j) q.log)) (sym eb) (word_grows p q g z.bearer (Rattle.kind_laws.specs.of_event_log.Words.bearer_in (object_id w j)) h.bearer);
-      stopped = subst (λ b. Rattle.protocol_legal.specs.Knows.HasStopped q.log b ⊎ ((run : Rattle.numbered.specs.of_protocol.Tables.Run) × (x.run ≡ Some run) × (run.attempt ≡ b))) (sym eb) (stops_or_runs p q g x y z.bearer stays h.stopped);
+      stopped = subst (λ b. Rattle.protocol_legal.specs.Knows.HasStopped q.log b ⊎ ((run : Rattle.numbered.specs.of_protocol.Tables.Execution) × (x.run ≡ Some run) × (run.attempt ≡ b))) (sym eb) (stops_or_runs p q g x y z.bearer stays h.stopped);
       resolved = same_word p q g (Rattle.kind_laws.specs.of_event_log.Words.resolved_in (object_id w j)) (quiet (object_id w j)).resolves ∙ h.resolved ∙ ap Rattle.protocol_legal.specs.Knows.listed (sym ef);
       known = λ f e. g.faults f (h.known f (sym ef ∙ e));
       released = same_word p q g (Rattle.kind_laws.specs.of_event_log.Words.released_in (object_id w j)) (quiet (object_id w j)).releases ∙ h.released ∙ ap (λ b. Rattle.protocol_legal.specs.Knows.once b (object_id w j)) (sym er);
-      maker = m;
+      source = m;
       names = na;
     }
 
     first_known : KnowsObject q y first (with_task next ob)
     first_known =
         let ko = knows k ob there in
-        let km : KnowsTask p first x.objects task × IsResultOf p x.objects first ob k task = subst (KnowsMaker p x.node x.objects first ob) maker ko.maker in
+        let km : KnowsTask p first x.objects task × IsResultOf p x.objects first ob k task = subst (KnowsSource p x.node x.objects first ob) source ko.source in
         let r = moved k ob (λ place part r. moves k place ob there part r) km.1 in
-        with_maker k ob (with_task next ob) refl refl refl ko (names_grow p q g first ob.ids ob.added ob.dead_holder ko.names) (now, (r.0, r.1, r.2, r.3, record { made = r.4.made; bare = r.4.bare; rests = λ e f. let t = r.4.rests e f in record { number = t.number; settled = t.settled; accepted = t.accepted; placed = λ u. here t.number (t.placed u) }; spent = r.4.spent }))
+        with_source k ob (with_task next ob) refl refl refl ko (names_grow p q g first ob.ids ob.added ob.dead_holder ko.names) (now, (r.0, r.1, r.2, r.3, record { made = r.4.made; bare = r.4.bare; rests = λ e f. let t = r.4.rests e f in record { number = t.number; settled = t.settled; accepted = t.accepted; placed = λ u. here t.number (t.placed u) }; spent = r.4.spent }))
       where
         here : (number : ℕ) → Rattle.protocol_legal.specs.Knows.IsPlaced q.log (object_id w k) number ob ⊎ Rattle.protocol_legal.specs.Knows.IsSpent q.log (object_id w k) →
             Rattle.protocol_legal.specs.Knows.IsPlaced q.log (object_id w k) number (with_task next ob) ⊎ Rattle.protocol_legal.specs.Knows.IsSpent q.log (object_id w k)
@@ -162,6 +162,6 @@ module _ (p q : Past) (g : Grows p q) (x : Worker) (w k : ℕ) (ob : Object) (ta
         subst (λ n. KnowsObject q y (object_id w n) v) (sym same) (subst (KnowsObject q y first) is first_known))
         (λ b _. let before : item_at x.objects j ≡ Some v = sym (item-elsewhere x.objects j k (with_task next) b) ∙ i in
         let ko = knows j v before in
-        at_test (λ c. (first_by j v.maker == k) ≡ c → KnowsObject q y (object_id w j) v) (first_by j v.maker == k)
-        (λ c _. with_maker j v v refl refl refl ko (names_grow p q g (object_id w j) v.ids v.added v.dead_holder ko.names) (other_maker j v before b v.maker refl (eqb-true (first_by j v.maker) k c) ko.maker))
-        (λ c _. object_quiet p q g apart x y j w v before rows_apart c (others (first_by j v.maker) c) (quiet (object_id w j)) refl stays ko) refl) refl
+        at_test (λ c. (first_by j v.source == k) ≡ c → KnowsObject q y (object_id w j) v) (first_by j v.source == k)
+        (λ c _. with_source j v v refl refl refl ko (names_grow p q g (object_id w j) v.ids v.added v.dead_holder ko.names) (other_source j v before b v.source refl (eqb-true (first_by j v.source) k c) ko.source))
+        (λ c _. object_quiet p q g apart x y j w v before rows_apart c (others (first_by j v.source) c) (quiet (object_id w j)) refl stays ko) refl) refl

@@ -8,7 +8,7 @@ use Rattle.kind_laws.specs.of_event_log.Words.{attempt, resolved_in, resolves_of
 use Rattle.kind_laws.specs.of_event_log.Breaks.{Among, RetriesAreUsed, breaks_of}
 use Rattle.numbered.specs.of_protocol.Sets.{fault, is_empty, object_id}
 use Rattle.numbered.specs.of_protocol.Tables.{Object, OwnTask, is_nowhere, is_pending_task, is_wanted, may_try_again}
-use Rattle.numbered.specs.of_protocol.Steps.{Here, each_result, with_task_of}
+use Rattle.numbered.specs.of_protocol.Steps.{WorkerContext, each_result, with_task_of}
 use Rattle.numbered.specs.of_protocol.Asking.{resolves_used, resolves_used_by, rests}
 use Rattle.protocol_legal.specs.Past.{Asking, Past, past}
 use Rattle.protocol_legal.specs.Lost.{IsKnownFault}
@@ -32,7 +32,7 @@ AreUsed log w j = RetriesAreUsed log (object_id w j)
 used_still : (log : List Entry) (w j i : ℕ) → AreUsed log w i → AreUsed (log ++ Resolved (object_id w j) (used_up w j) ∷ []) w i
 used_still log w j i used = used_more log (Resolved (object_id w j) (used_up w j) ∷ []) (object_id w i) refl used (record { accepts = λ _. refl; runs = refl })
 
-module _ (f : Frame) (asked : List Asking) (h : Here) (s : SoundHere f asked h) (k : ℕ) (task : OwnTask) (t : OwnTaskAt h k task) (pending : is_pending_task task ≡ true)
+module _ (f : Frame) (asked : List Asking) (h : WorkerContext) (s : SoundHere f asked h) (k : ℕ) (task : OwnTask) (t : OwnTaskAt h k task) (pending : is_pending_task task ≡ true)
     (w n at_place : ℕ) (last : may_try_again task ≡ false) where
   abbrev o : Id
   o = object_id h.me k
@@ -80,7 +80,7 @@ module _ (f : Frame) (asked : List Asking) (h : Here) (s : SoundHere f asked h) 
         let v = kt.wanted pending in
         let j = k + v.place in
         let ko = s.knows.objects j v.object v.there in
-        let km = was_result f asked h s k task t pending j v.object v.there v.first v.object.maker refl ko.maker in
+        let km = was_result f asked h s k task t pending j v.object v.there v.first v.object.source refl ko.source in
         let row = rested_row f asked h s k task t pending v.place v.within in
         let before = row.before in
         let there = v.there in

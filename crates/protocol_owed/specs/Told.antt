@@ -2,7 +2,7 @@
 use Rattle.std.specs.Prelude.{◌≡◌, Option, None, Some}
 use Rattle.smallest_steps.specs.of_event_log.Entries.{Attempt}
 use Rattle.smallest_steps.specs.of_protocol.Sets.{first_item}
-use Rattle.smallest_steps.specs.of_protocol.Tables.{HasEnded, HasFaulted, Out, Phase, Ready, Run, Waits, Worker}
+use Rattle.smallest_steps.specs.of_protocol.Tables.{HasEnded, HasFaulted, Out, Phase, Ready, Execution, Waits, Worker}
 use Rattle.protocol_owed.specs.Courses.{Course, GoesOn, HasStopped, IsOut, Pace, Rests, has_begun}
 
 -- how far an attempt is, by its phase
@@ -13,11 +13,11 @@ pace_in (Waits y f) = Rests
 pace_in (HasEnded cs) = HasStopped
 pace_in (HasFaulted f) = HasStopped
 
-abbrev pub pace_by : Option Run → Pace
+abbrev pub pace_by : Option Execution → Pace
 pace_by None = HasStopped
 pace_by (Some run) = pace_in run.phase
 
-abbrev pub attempt_by : Option Run → Option Attempt
+abbrev pub attempt_by : Option Execution → Option Attempt
 attempt_by None = None
 attempt_by (Some run) = Some run.attempt
 

@@ -5,7 +5,7 @@ use Rattle.std.specs.Prelude.{List, None, [], codes, ◌∷◌}
 use Rattle.meaning.specs.Values.{Birth, Put, Task, main_birth}
 use Rattle.event_log.specs.Entries.{Begun, Born, Claim, Commit, Deliver, Faulted, In, Lose, Opened, PutLost, Released, Resolved}
 use Rattle.protocol.specs.Sets.{fault}
-use Rattle.protocol.specs.Messages.{Ask, At, Back, Failed, FinishedAck, Give, Gone, Missing, Push, TheNode, TheWorker, Unhold, WasReleased, Where, letter}
+use Rattle.protocol.specs.Messages.{Ask, At, Back, Failed, FinishedAck, Give, Gone, Missing, Push, TheNode, TheWorker, Unhold, WasReleased, Where, envelope}
 use Rattle.protocol.specs.Jobs.{AtGet}
 use Rattle.protocol.specs.Plays.{Does, Doing, Line, Seen, Settles, does_all, doing}
 use Rattle.protocol_rows.specs.Writing.{a1_0_0, a1_2_0, dereferenced, done, int, job, o1_1, o1_2, o1_3, o2_1}
@@ -78,18 +78,18 @@ both_failed_run =
           ∷ In (Deliver 10) 0
           ∷ In (Deliver 11) 0
           ∷ [];
-      letters =
-          letter (TheWorker 1) (TheNode 1) (Ask a1_2_0 0)
-          ∷ letter (TheNode 1) (TheWorker 1) (Give a1_2_0 0 2)
-          ∷ letter (TheWorker 1) (TheWorker 2) (Push a1_2_0 birth_1_2)
-          ∷ letter (TheWorker 2) (TheWorker 1) (Where o1_1)
-          ∷ letter (TheWorker 1) (TheWorker 2) (At o1_1 0 (1 ∷ []) None)
-          ∷ letter (TheWorker 2) (TheWorker 1) (Missing o1_1 0 1)
-          ∷ letter (TheWorker 1) (TheWorker 2) (Gone o1_1 (fault PutLost o1_1))
-          ∷ letter (TheWorker 2) (TheWorker 1) (Failed a1_2_0 (fault PutLost o1_1))
-          ∷ letter (TheWorker 1) (TheWorker 2) (FinishedAck a1_2_0)
-          ∷ letter (TheWorker 1) (TheNode 1) (Unhold o1_1 o1_1 WasReleased)
-          ∷ letter (TheWorker 2) (TheNode 1) (Back a1_2_0)
+      envelopes =
+          envelope (TheWorker 1) (TheNode 1) (Ask a1_2_0 0)
+          ∷ envelope (TheNode 1) (TheWorker 1) (Give a1_2_0 0 2)
+          ∷ envelope (TheWorker 1) (TheWorker 2) (Push a1_2_0 birth_1_2)
+          ∷ envelope (TheWorker 2) (TheWorker 1) (Where o1_1)
+          ∷ envelope (TheWorker 1) (TheWorker 2) (At o1_1 0 (1 ∷ []) None)
+          ∷ envelope (TheWorker 2) (TheWorker 1) (Missing o1_1 0 1)
+          ∷ envelope (TheWorker 1) (TheWorker 2) (Gone o1_1 (fault PutLost o1_1))
+          ∷ envelope (TheWorker 2) (TheWorker 1) (Failed a1_2_0 (fault PutLost o1_1))
+          ∷ envelope (TheWorker 1) (TheWorker 2) (FinishedAck a1_2_0)
+          ∷ envelope (TheWorker 1) (TheNode 1) (Unhold o1_1 o1_1 WasReleased)
+          ∷ envelope (TheWorker 2) (TheNode 1) (Back a1_2_0)
           ∷ [];
       given =
           job 1 a1_0_0 main_birth o1_1 [] [] []

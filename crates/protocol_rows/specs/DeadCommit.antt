@@ -6,7 +6,7 @@ use Rattle.meaning.specs.Values.{Birth, Task, Val, main_birth}
 use Rattle.event_log.specs.Entries.{Begun, Born, Claim, Commit, Deliver, Faulted, In, Kill, Notice, Opened, Refused, Released, Resolved, RetriesUsed}
 use Rattle.event_log.specs.Entries.{NoWorker, Stale}
 use Rattle.protocol.specs.Sets.{fault}
-use Rattle.protocol.specs.Messages.{Ask, Give, Push, TheNode, TheWorker, letter}
+use Rattle.protocol.specs.Messages.{Ask, Give, Push, TheNode, TheWorker, envelope}
 use Rattle.protocol.specs.Jobs.{AtEnd, AtGet}
 use Rattle.protocol.specs.Plays.{Does, Doing, Line, Seen, Settles, does_all, doing}
 use Rattle.protocol_rows.specs.Writing.{a1_0_0, a1_1_0, done, int, job, o1_1, o2_1}
@@ -66,10 +66,10 @@ dead_commit_run =
           ∷ Faulted a1_0_0 o1_1 (fault RetriesUsed o1_1)
           ∷ Released o1_1
           ∷ [];
-      letters =
-          letter (TheWorker 1) (TheNode 1) (Ask a1_1_0 0)
-          ∷ letter (TheNode 1) (TheWorker 1) (Give a1_1_0 0 2)
-          ∷ letter (TheWorker 1) (TheWorker 2) (Push a1_1_0 birth_1_1)
+      envelopes =
+          envelope (TheWorker 1) (TheNode 1) (Ask a1_1_0 0)
+          ∷ envelope (TheNode 1) (TheWorker 1) (Give a1_1_0 0 2)
+          ∷ envelope (TheWorker 1) (TheWorker 2) (Push a1_1_0 birth_1_1)
           ∷ [];
       given =
           job 1 a1_0_0 main_birth o1_1 [] [] []

@@ -5,7 +5,7 @@ use Rattle.std.specs.Prelude.{List, [], codes, ◌∷◌}
 use Rattle.meaning.specs.Values.{Birth, Task, main_birth}
 use Rattle.event_log.specs.Entries.{Begun, Born, Claim, Commit, Deliver, Evict, In, Kill, KillNode, Lose, Notice, NoticeNode, Opened, Refused, Tick}
 use Rattle.event_log.specs.Entries.{NoCopy, NoWorker, NotReady, NoJob, NoMessage, NotDead, NoNode}
-use Rattle.protocol.specs.Messages.{Ask, TheNode, TheWorker, letter}
+use Rattle.protocol.specs.Messages.{Ask, TheNode, TheWorker, envelope}
 use Rattle.protocol.specs.Jobs.{AtGet}
 use Rattle.protocol.specs.Plays.{Doing, Line, Seen, does_all, doing}
 use Rattle.protocol_rows.specs.Writing.{a1_0_0, a1_1_0, done, given, int, job, o1_1}
@@ -100,8 +100,8 @@ each_refused_run =
           ∷ In (Commit 1) 0
           ∷ Refused NoJob
           ∷ [];
-      letters =
-          letter (TheWorker 1) (TheNode 1) (Ask a1_1_0 0)
+      envelopes =
+          envelope (TheWorker 1) (TheNode 1) (Ask a1_1_0 0)
           ∷ [];
       given =
           job 1 a1_0_0 main_birth o1_1 [] [] []

@@ -5,7 +5,7 @@ use Rattle.std.specs.Prelude.{List, None, [], codes, ◌∷◌}
 use Rattle.meaning.specs.Values.{Birth, Task, Val, main_birth}
 use Rattle.event_log.specs.Entries.{Accepted, Begun, Born, Claim, Commit, Deliver, Ended, Evict, Got, In, Opened, Refused, Released}
 use Rattle.event_log.specs.Entries.{NoCopy}
-use Rattle.protocol.specs.Messages.{Ask, Back, CopyOf, Elsewhere, Fetch, Finished, FinishedAck, Give, Push, TheNode, TheWorker, Unhold, WasReleased, letter}
+use Rattle.protocol.specs.Messages.{Ask, Back, CopyOf, Elsewhere, Fetch, Finished, FinishedAck, Give, Push, TheNode, TheWorker, Unhold, WasReleased, envelope}
 use Rattle.protocol.specs.Jobs.{AtEnd, AtGet}
 use Rattle.protocol.specs.Plays.{Does, Doing, Line, Seen, Settles, does_all, doing}
 use Rattle.protocol_rows.specs.Writing.{a1_0_0, a1_1_0, a1_2_0, done, given, int, job, nine, o1_1, o1_2, o2_1, o3_1, told}
@@ -109,28 +109,28 @@ evicted_run =
           ∷ In (Deliver 20) 0
           ∷ In (Deliver 21) 0
           ∷ [];
-      letters =
-          letter (TheWorker 1) (TheNode 1) (Ask a1_1_0 0)
-          ∷ letter (TheWorker 1) (TheNode 1) (Ask a1_2_0 0)
-          ∷ letter (TheNode 1) (TheWorker 1) (Give a1_1_0 0 2)
-          ∷ letter (TheNode 1) (TheWorker 1) (Elsewhere a1_2_0 0 2)
-          ∷ letter (TheWorker 1) (TheWorker 2) (Push a1_1_0 birth_1_1)
-          ∷ letter (TheWorker 1) (TheNode 2) (Ask a1_2_0 1)
-          ∷ letter (TheNode 2) (TheWorker 1) (Give a1_2_0 1 3)
-          ∷ letter (TheWorker 1) (TheWorker 3) (Push a1_2_0 birth_1_2)
-          ∷ letter (TheWorker 2) (TheWorker 1) (Finished a1_1_0 1 (told [] None ∷ []))
-          ∷ letter (TheWorker 1) (TheWorker 2) (FinishedAck a1_1_0)
-          ∷ letter (TheWorker 2) (TheNode 1) (Back a1_1_0)
-          ∷ letter (TheWorker 3) (TheWorker 1) (Finished a1_2_0 2 (told [] None ∷ []))
-          ∷ letter (TheWorker 1) (TheWorker 3) (FinishedAck a1_2_0)
-          ∷ letter (TheWorker 1) (TheNode 2) (Fetch o1_2 0)
-          ∷ letter (TheWorker 3) (TheNode 2) (Back a1_2_0)
-          ∷ letter (TheNode 2) (TheWorker 1) (CopyOf o1_2 0 (Val (nine (int 2))))
-          ∷ letter (TheWorker 1) (TheNode 2) (Fetch o1_2 0)
-          ∷ letter (TheNode 2) (TheWorker 1) (CopyOf o1_2 0 (Val (nine (int 2))))
-          ∷ letter (TheWorker 1) (TheNode 1) (Unhold o1_1 o1_1 WasReleased)
-          ∷ letter (TheWorker 1) (TheNode 2) (Unhold o1_2 o1_2 WasReleased)
-          ∷ letter (TheWorker 1) (TheNode 1) (Unhold o1_2 o1_2 WasReleased)
+      envelopes =
+          envelope (TheWorker 1) (TheNode 1) (Ask a1_1_0 0)
+          ∷ envelope (TheWorker 1) (TheNode 1) (Ask a1_2_0 0)
+          ∷ envelope (TheNode 1) (TheWorker 1) (Give a1_1_0 0 2)
+          ∷ envelope (TheNode 1) (TheWorker 1) (Elsewhere a1_2_0 0 2)
+          ∷ envelope (TheWorker 1) (TheWorker 2) (Push a1_1_0 birth_1_1)
+          ∷ envelope (TheWorker 1) (TheNode 2) (Ask a1_2_0 1)
+          ∷ envelope (TheNode 2) (TheWorker 1) (Give a1_2_0 1 3)
+          ∷ envelope (TheWorker 1) (TheWorker 3) (Push a1_2_0 birth_1_2)
+          ∷ envelope (TheWorker 2) (TheWorker 1) (Finished a1_1_0 1 (told [] None ∷ []))
+          ∷ envelope (TheWorker 1) (TheWorker 2) (FinishedAck a1_1_0)
+          ∷ envelope (TheWorker 2) (TheNode 1) (Back a1_1_0)
+          ∷ envelope (TheWorker 3) (TheWorker 1) (Finished a1_2_0 2 (told [] None ∷ []))
+          ∷ envelope (TheWorker 1) (TheWorker 3) (FinishedAck a1_2_0)
+          ∷ envelope (TheWorker 1) (TheNode 2) (Fetch o1_2 0)
+          ∷ envelope (TheWorker 3) (TheNode 2) (Back a1_2_0)
+          ∷ envelope (TheNode 2) (TheWorker 1) (CopyOf o1_2 0 (Val (nine (int 2))))
+          ∷ envelope (TheWorker 1) (TheNode 2) (Fetch o1_2 0)
+          ∷ envelope (TheNode 2) (TheWorker 1) (CopyOf o1_2 0 (Val (nine (int 2))))
+          ∷ envelope (TheWorker 1) (TheNode 1) (Unhold o1_1 o1_1 WasReleased)
+          ∷ envelope (TheWorker 1) (TheNode 2) (Unhold o1_2 o1_2 WasReleased)
+          ∷ envelope (TheWorker 1) (TheNode 1) (Unhold o1_2 o1_2 WasReleased)
           ∷ [];
       given =
           job 1 a1_0_0 main_birth o1_1 [] [] []

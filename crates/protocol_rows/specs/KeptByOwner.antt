@@ -4,7 +4,7 @@
 use Rattle.std.specs.Prelude.{List, Some, [], codes, ◌∷◌}
 use Rattle.meaning.specs.Values.{Birth, Task, Val, main_birth}
 use Rattle.event_log.specs.Entries.{Accepted, Begun, Born, Claim, Commit, Deliver, Ended, Got, In, KillNode, NoticeNode, Opened, Released}
-use Rattle.protocol.specs.Messages.{Ask, Back, Elsewhere, Finished, FinishedAck, Give, Push, TheNode, TheWorker, letter}
+use Rattle.protocol.specs.Messages.{Ask, Back, Elsewhere, Finished, FinishedAck, Give, Push, TheNode, TheWorker, envelope}
 use Rattle.protocol.specs.Jobs.{AtEnd, AtGet}
 use Rattle.protocol.specs.Plays.{Does, Doing, Line, Seen, Settles, does_all, doing}
 use Rattle.protocol_rows.specs.Writing.{a1_0_0, a1_1_0, a1_2_0, done, given, int, job, o1_1, o1_2, o2_1, o3_1, told}
@@ -95,21 +95,21 @@ kept_by_owner_run =
           ∷ Released o1_1
           ∷ Released o1_2
           ∷ [];
-      letters =
-          letter (TheWorker 1) (TheNode 1) (Ask a1_1_0 0)
-          ∷ letter (TheWorker 1) (TheNode 1) (Ask a1_2_0 0)
-          ∷ letter (TheNode 1) (TheWorker 1) (Give a1_1_0 0 2)
-          ∷ letter (TheNode 1) (TheWorker 1) (Elsewhere a1_2_0 0 2)
-          ∷ letter (TheWorker 1) (TheWorker 2) (Push a1_1_0 birth_1_1)
-          ∷ letter (TheWorker 1) (TheNode 2) (Ask a1_2_0 1)
-          ∷ letter (TheNode 2) (TheWorker 1) (Give a1_2_0 1 3)
-          ∷ letter (TheWorker 1) (TheWorker 3) (Push a1_2_0 birth_1_2)
-          ∷ letter (TheWorker 2) (TheWorker 1) (Finished a1_1_0 1 (told [] (Some (Val (int 1))) ∷ []))
-          ∷ letter (TheWorker 1) (TheWorker 2) (FinishedAck a1_1_0)
-          ∷ letter (TheWorker 2) (TheNode 1) (Back a1_1_0)
-          ∷ letter (TheWorker 3) (TheWorker 1) (Finished a1_2_0 2 (told [] (Some (Val (int 9))) ∷ []))
-          ∷ letter (TheWorker 1) (TheWorker 3) (FinishedAck a1_2_0)
-          ∷ letter (TheWorker 3) (TheNode 2) (Back a1_2_0)
+      envelopes =
+          envelope (TheWorker 1) (TheNode 1) (Ask a1_1_0 0)
+          ∷ envelope (TheWorker 1) (TheNode 1) (Ask a1_2_0 0)
+          ∷ envelope (TheNode 1) (TheWorker 1) (Give a1_1_0 0 2)
+          ∷ envelope (TheNode 1) (TheWorker 1) (Elsewhere a1_2_0 0 2)
+          ∷ envelope (TheWorker 1) (TheWorker 2) (Push a1_1_0 birth_1_1)
+          ∷ envelope (TheWorker 1) (TheNode 2) (Ask a1_2_0 1)
+          ∷ envelope (TheNode 2) (TheWorker 1) (Give a1_2_0 1 3)
+          ∷ envelope (TheWorker 1) (TheWorker 3) (Push a1_2_0 birth_1_2)
+          ∷ envelope (TheWorker 2) (TheWorker 1) (Finished a1_1_0 1 (told [] (Some (Val (int 1))) ∷ []))
+          ∷ envelope (TheWorker 1) (TheWorker 2) (FinishedAck a1_1_0)
+          ∷ envelope (TheWorker 2) (TheNode 1) (Back a1_1_0)
+          ∷ envelope (TheWorker 3) (TheWorker 1) (Finished a1_2_0 2 (told [] (Some (Val (int 9))) ∷ []))
+          ∷ envelope (TheWorker 1) (TheWorker 3) (FinishedAck a1_2_0)
+          ∷ envelope (TheWorker 3) (TheNode 2) (Back a1_2_0)
           ∷ [];
       given =
           job 1 a1_0_0 main_birth o1_1 [] [] []

@@ -5,7 +5,7 @@ use Rattle.std.specs.Prelude.{List, Some, [], codes, ◌∷◌}
 use Rattle.meaning.specs.Values.{Birth, Task, Val, main_birth}
 use Rattle.event_log.specs.Entries.{Accepted, Begun, Born, Claim, Commit, Deliver, Ended, Got, In, Lose, Opened, Printed, Refused, Released}
 use Rattle.event_log.specs.Entries.{NoCopy}
-use Rattle.protocol.specs.Messages.{Ask, Back, Finished, FinishedAck, Give, Push, TheNode, TheWorker, letter}
+use Rattle.protocol.specs.Messages.{Ask, Back, Finished, FinishedAck, Give, Push, TheNode, TheWorker, envelope}
 use Rattle.protocol.specs.Jobs.{AtEnd, AtGet}
 use Rattle.protocol.specs.Plays.{Does, Doing, Line, Seen, Settles, does_all, doing}
 use Rattle.protocol_rows.specs.Writing.{a1_0_0, a1_1_0, done, given, int, job, o1_1, o2_1, told}
@@ -70,13 +70,13 @@ nothing_to_lose_run =
           ∷ Ended a1_0_0 (Val (int 0) ∷ [])
           ∷ Released o1_1
           ∷ [];
-      letters =
-          letter (TheWorker 1) (TheNode 1) (Ask a1_1_0 0)
-          ∷ letter (TheNode 1) (TheWorker 1) (Give a1_1_0 0 2)
-          ∷ letter (TheWorker 1) (TheWorker 2) (Push a1_1_0 birth_1_1)
-          ∷ letter (TheWorker 2) (TheWorker 1) (Finished a1_1_0 1 (told [] (Some (Val (int 49))) ∷ []))
-          ∷ letter (TheWorker 1) (TheWorker 2) (FinishedAck a1_1_0)
-          ∷ letter (TheWorker 2) (TheNode 1) (Back a1_1_0)
+      envelopes =
+          envelope (TheWorker 1) (TheNode 1) (Ask a1_1_0 0)
+          ∷ envelope (TheNode 1) (TheWorker 1) (Give a1_1_0 0 2)
+          ∷ envelope (TheWorker 1) (TheWorker 2) (Push a1_1_0 birth_1_1)
+          ∷ envelope (TheWorker 2) (TheWorker 1) (Finished a1_1_0 1 (told [] (Some (Val (int 49))) ∷ []))
+          ∷ envelope (TheWorker 1) (TheWorker 2) (FinishedAck a1_1_0)
+          ∷ envelope (TheWorker 2) (TheNode 1) (Back a1_1_0)
           ∷ [];
       given =
           job 1 a1_0_0 main_birth o1_1 [] [] []

@@ -4,7 +4,7 @@
 use Rattle.std.specs.Prelude.{List, Some, [], codes, ◌∷◌}
 use Rattle.meaning.specs.Values.{Birth, Named, Task, Val, main_birth}
 use Rattle.event_log.specs.Entries.{Accepted, Begun, Born, Claim, Commit, Deliver, Ended, Got, In, Kill, Opened}
-use Rattle.protocol.specs.Messages.{Ask, Back, Finished, FinishedAck, Give, Push, TheNode, TheWorker, Where, letter}
+use Rattle.protocol.specs.Messages.{Ask, Back, Finished, FinishedAck, Give, Push, TheNode, TheWorker, Where, envelope}
 use Rattle.protocol.specs.Jobs.{AtEnd, AtGet}
 use Rattle.protocol.specs.Plays.{Does, Doing, Line, Seen, Settles, does_all, doing}
 use Rattle.protocol_rows.specs.Writing.{a1_0_0, a1_1_0, a2_1_0, done, int, job, o1_1, o2_1, o3_1, told}
@@ -84,20 +84,20 @@ owner_not_known_dead_run =
           ∷ In (Commit 4) 0
           ∷ In (Deliver 13) 0
           ∷ [];
-      letters =
-          letter (TheWorker 1) (TheNode 1) (Ask a1_1_0 0)
-          ∷ letter (TheNode 1) (TheWorker 1) (Give a1_1_0 0 2)
-          ∷ letter (TheWorker 1) (TheWorker 2) (Push a1_1_0 birth_1_1)
-          ∷ letter (TheWorker 2) (TheNode 1) (Ask a2_1_0 0)
-          ∷ letter (TheWorker 2) (TheWorker 1) (Finished a1_1_0 1 (told (o2_1 ∷ []) (Some (Val (Named o2_1))) ∷ []))
-          ∷ letter (TheNode 1) (TheWorker 2) (Give a2_1_0 0 3)
-          ∷ letter (TheWorker 1) (TheWorker 2) (FinishedAck a1_1_0)
-          ∷ letter (TheWorker 2) (TheWorker 3) (Push a2_1_0 birth_2_1)
-          ∷ letter (TheWorker 2) (TheNode 1) (Back a1_1_0)
-          ∷ letter (TheWorker 3) (TheWorker 2) (Finished a2_1_0 1 (told [] (Some (Val (int 4))) ∷ []))
-          ∷ letter (TheWorker 2) (TheWorker 3) (FinishedAck a2_1_0)
-          ∷ letter (TheWorker 3) (TheNode 1) (Back a2_1_0)
-          ∷ letter (TheWorker 1) (TheWorker 2) (Where o2_1)
+      envelopes =
+          envelope (TheWorker 1) (TheNode 1) (Ask a1_1_0 0)
+          ∷ envelope (TheNode 1) (TheWorker 1) (Give a1_1_0 0 2)
+          ∷ envelope (TheWorker 1) (TheWorker 2) (Push a1_1_0 birth_1_1)
+          ∷ envelope (TheWorker 2) (TheNode 1) (Ask a2_1_0 0)
+          ∷ envelope (TheWorker 2) (TheWorker 1) (Finished a1_1_0 1 (told (o2_1 ∷ []) (Some (Val (Named o2_1))) ∷ []))
+          ∷ envelope (TheNode 1) (TheWorker 2) (Give a2_1_0 0 3)
+          ∷ envelope (TheWorker 1) (TheWorker 2) (FinishedAck a1_1_0)
+          ∷ envelope (TheWorker 2) (TheWorker 3) (Push a2_1_0 birth_2_1)
+          ∷ envelope (TheWorker 2) (TheNode 1) (Back a1_1_0)
+          ∷ envelope (TheWorker 3) (TheWorker 2) (Finished a2_1_0 1 (told [] (Some (Val (int 4))) ∷ []))
+          ∷ envelope (TheWorker 2) (TheWorker 3) (FinishedAck a2_1_0)
+          ∷ envelope (TheWorker 3) (TheNode 1) (Back a2_1_0)
+          ∷ envelope (TheWorker 1) (TheWorker 2) (Where o2_1)
           ∷ [];
       given =
           job 1 a1_0_0 main_birth o1_1 [] [] []

@@ -5,7 +5,7 @@ use Rattle.std.specs.Prelude.{List, None, Some, [], codes, ◌∷◌}
 use Rattle.meaning.specs.Values.{Birth, Task, Val, main_birth}
 use Rattle.event_log.specs.Entries.{Accepted, Begun, Born, Claim, Commit, Deliver, Ended, Got, In, Lose, Opened, Released}
 use Rattle.protocol.specs.Messages.{Ask, At, Back, CopyOf, Elsewhere, Fetch, Finished, FinishedAck}
-use Rattle.protocol.specs.Messages.{Give, Push, TheNode, TheWorker, Unhold, WasReleased, Where, letter}
+use Rattle.protocol.specs.Messages.{Give, Push, TheNode, TheWorker, Unhold, WasReleased, Where, envelope}
 use Rattle.protocol.specs.Jobs.{AtEnd, AtGet}
 use Rattle.protocol.specs.Plays.{Does, Doing, Line, Seen, Settles, does_all, doing}
 use Rattle.protocol_rows.specs.Writing.{a1_0_0, a1_1_0, a1_1_1, a1_3_0, dereferenced, done, given, int, job, nine, o1_1, o1_2, o1_3, o2_1, o3_1, told}
@@ -125,35 +125,35 @@ place_there_run =
           ∷ In (Deliver 27) 0
           ∷ In (Deliver 28) 0
           ∷ [];
-      letters =
-          letter (TheWorker 1) (TheNode 1) (Ask a1_1_0 0)
-          ∷ letter (TheNode 1) (TheWorker 1) (Give a1_1_0 0 2)
-          ∷ letter (TheWorker 1) (TheWorker 2) (Push a1_1_0 birth_1_1)
-          ∷ letter (TheWorker 2) (TheWorker 1) (Finished a1_1_0 1 (told [] None ∷ told [] None ∷ []))
-          ∷ letter (TheWorker 1) (TheWorker 2) (FinishedAck a1_1_0)
-          ∷ letter (TheWorker 2) (TheNode 1) (Back a1_1_0)
-          ∷ letter (TheWorker 1) (TheNode 1) (Ask a1_3_0 0)
-          ∷ letter (TheWorker 1) (TheNode 1) (Ask a1_1_1 0)
-          ∷ letter (TheNode 1) (TheWorker 1) (Give a1_3_0 0 2)
-          ∷ letter (TheNode 1) (TheWorker 1) (Elsewhere a1_1_1 0 2)
-          ∷ letter (TheWorker 1) (TheWorker 2) (Push a1_3_0 birth_1_3)
-          ∷ letter (TheWorker 1) (TheNode 2) (Ask a1_1_1 1)
-          ∷ letter (TheNode 2) (TheWorker 1) (Give a1_1_1 1 3)
-          ∷ letter (TheWorker 1) (TheWorker 3) (Push a1_1_1 birth_1_1)
-          ∷ letter (TheWorker 2) (TheWorker 1) (Where o1_1)
-          ∷ letter (TheWorker 1) (TheWorker 2) (At o1_1 0 (1 ∷ []) None)
-          ∷ letter (TheWorker 2) (TheWorker 1) (Finished a1_3_0 1 (told [] (Some (Val (int 4))) ∷ []))
-          ∷ letter (TheWorker 1) (TheWorker 2) (FinishedAck a1_3_0)
-          ∷ letter (TheWorker 2) (TheNode 1) (Back a1_3_0)
-          ∷ letter (TheWorker 3) (TheWorker 1) (Finished a1_1_1 2 (told [] None ∷ told [] None ∷ []))
-          ∷ letter (TheWorker 1) (TheWorker 3) (FinishedAck a1_1_1)
-          ∷ letter (TheWorker 1) (TheNode 2) (Fetch o1_2 1)
-          ∷ letter (TheWorker 3) (TheNode 2) (Back a1_1_1)
-          ∷ letter (TheNode 2) (TheWorker 1) (CopyOf o1_2 1 (Val (nine (int 4))))
-          ∷ letter (TheWorker 1) (TheNode 1) (Unhold o1_1 o1_1 WasReleased)
-          ∷ letter (TheWorker 1) (TheNode 2) (Unhold o1_1 o1_1 WasReleased)
-          ∷ letter (TheWorker 1) (TheNode 1) (Unhold o1_2 o1_2 WasReleased)
-          ∷ letter (TheWorker 1) (TheNode 2) (Unhold o1_2 o1_2 WasReleased)
+      envelopes =
+          envelope (TheWorker 1) (TheNode 1) (Ask a1_1_0 0)
+          ∷ envelope (TheNode 1) (TheWorker 1) (Give a1_1_0 0 2)
+          ∷ envelope (TheWorker 1) (TheWorker 2) (Push a1_1_0 birth_1_1)
+          ∷ envelope (TheWorker 2) (TheWorker 1) (Finished a1_1_0 1 (told [] None ∷ told [] None ∷ []))
+          ∷ envelope (TheWorker 1) (TheWorker 2) (FinishedAck a1_1_0)
+          ∷ envelope (TheWorker 2) (TheNode 1) (Back a1_1_0)
+          ∷ envelope (TheWorker 1) (TheNode 1) (Ask a1_3_0 0)
+          ∷ envelope (TheWorker 1) (TheNode 1) (Ask a1_1_1 0)
+          ∷ envelope (TheNode 1) (TheWorker 1) (Give a1_3_0 0 2)
+          ∷ envelope (TheNode 1) (TheWorker 1) (Elsewhere a1_1_1 0 2)
+          ∷ envelope (TheWorker 1) (TheWorker 2) (Push a1_3_0 birth_1_3)
+          ∷ envelope (TheWorker 1) (TheNode 2) (Ask a1_1_1 1)
+          ∷ envelope (TheNode 2) (TheWorker 1) (Give a1_1_1 1 3)
+          ∷ envelope (TheWorker 1) (TheWorker 3) (Push a1_1_1 birth_1_1)
+          ∷ envelope (TheWorker 2) (TheWorker 1) (Where o1_1)
+          ∷ envelope (TheWorker 1) (TheWorker 2) (At o1_1 0 (1 ∷ []) None)
+          ∷ envelope (TheWorker 2) (TheWorker 1) (Finished a1_3_0 1 (told [] (Some (Val (int 4))) ∷ []))
+          ∷ envelope (TheWorker 1) (TheWorker 2) (FinishedAck a1_3_0)
+          ∷ envelope (TheWorker 2) (TheNode 1) (Back a1_3_0)
+          ∷ envelope (TheWorker 3) (TheWorker 1) (Finished a1_1_1 2 (told [] None ∷ told [] None ∷ []))
+          ∷ envelope (TheWorker 1) (TheWorker 3) (FinishedAck a1_1_1)
+          ∷ envelope (TheWorker 1) (TheNode 2) (Fetch o1_2 1)
+          ∷ envelope (TheWorker 3) (TheNode 2) (Back a1_1_1)
+          ∷ envelope (TheNode 2) (TheWorker 1) (CopyOf o1_2 1 (Val (nine (int 4))))
+          ∷ envelope (TheWorker 1) (TheNode 1) (Unhold o1_1 o1_1 WasReleased)
+          ∷ envelope (TheWorker 1) (TheNode 2) (Unhold o1_1 o1_1 WasReleased)
+          ∷ envelope (TheWorker 1) (TheNode 1) (Unhold o1_2 o1_2 WasReleased)
+          ∷ envelope (TheWorker 1) (TheNode 2) (Unhold o1_2 o1_2 WasReleased)
           ∷ [];
       given =
           job 1 a1_0_0 main_birth o1_1 [] [] []

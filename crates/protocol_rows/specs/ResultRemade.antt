@@ -4,7 +4,7 @@
 use Rattle.std.specs.Prelude.{List, None, Some, [], codes, ◌∷◌}
 use Rattle.meaning.specs.Values.{Birth, Task, Val, main_birth}
 use Rattle.event_log.specs.Entries.{Accepted, Begun, Born, Claim, Commit, Deliver, Ended, Got, In, Lose, Opened, Released}
-use Rattle.protocol.specs.Messages.{Ask, Back, Finished, FinishedAck, Give, Push, TheNode, TheWorker, Unhold, WasReleased, letter}
+use Rattle.protocol.specs.Messages.{Ask, Back, Finished, FinishedAck, Give, Push, TheNode, TheWorker, Unhold, WasReleased, envelope}
 use Rattle.protocol.specs.Jobs.{AtEnd, AtGet}
 use Rattle.protocol.specs.Plays.{Does, Doing, Line, Seen, Settles, does_all, doing}
 use Rattle.protocol_rows.specs.Writing.{a1_0_0, a1_1_0, a1_1_1, done, given, int, job, nine, o1_1, o1_2, o2_1, told}
@@ -86,20 +86,20 @@ result_remade_run =
           ∷ Released o1_2
           ∷ In (Deliver 13) 0
           ∷ [];
-      letters =
-          letter (TheWorker 1) (TheNode 1) (Ask a1_1_0 0)
-          ∷ letter (TheNode 1) (TheWorker 1) (Give a1_1_0 0 2)
-          ∷ letter (TheWorker 1) (TheWorker 2) (Push a1_1_0 birth_1_1)
-          ∷ letter (TheWorker 2) (TheWorker 1) (Finished a1_1_0 1 (told [] (Some (Val (int 5))) ∷ told [] None ∷ []))
-          ∷ letter (TheWorker 1) (TheWorker 2) (FinishedAck a1_1_0)
-          ∷ letter (TheWorker 2) (TheNode 1) (Back a1_1_0)
-          ∷ letter (TheWorker 1) (TheNode 1) (Ask a1_1_1 0)
-          ∷ letter (TheNode 1) (TheWorker 1) (Give a1_1_1 0 2)
-          ∷ letter (TheWorker 1) (TheWorker 2) (Push a1_1_1 birth_1_1)
-          ∷ letter (TheWorker 2) (TheWorker 1) (Finished a1_1_1 1 (told [] (Some (Val (int 5))) ∷ told [] None ∷ []))
-          ∷ letter (TheWorker 1) (TheWorker 2) (FinishedAck a1_1_1)
-          ∷ letter (TheWorker 2) (TheNode 1) (Back a1_1_1)
-          ∷ letter (TheWorker 1) (TheNode 1) (Unhold o1_2 o1_2 WasReleased)
+      envelopes =
+          envelope (TheWorker 1) (TheNode 1) (Ask a1_1_0 0)
+          ∷ envelope (TheNode 1) (TheWorker 1) (Give a1_1_0 0 2)
+          ∷ envelope (TheWorker 1) (TheWorker 2) (Push a1_1_0 birth_1_1)
+          ∷ envelope (TheWorker 2) (TheWorker 1) (Finished a1_1_0 1 (told [] (Some (Val (int 5))) ∷ told [] None ∷ []))
+          ∷ envelope (TheWorker 1) (TheWorker 2) (FinishedAck a1_1_0)
+          ∷ envelope (TheWorker 2) (TheNode 1) (Back a1_1_0)
+          ∷ envelope (TheWorker 1) (TheNode 1) (Ask a1_1_1 0)
+          ∷ envelope (TheNode 1) (TheWorker 1) (Give a1_1_1 0 2)
+          ∷ envelope (TheWorker 1) (TheWorker 2) (Push a1_1_1 birth_1_1)
+          ∷ envelope (TheWorker 2) (TheWorker 1) (Finished a1_1_1 1 (told [] (Some (Val (int 5))) ∷ told [] None ∷ []))
+          ∷ envelope (TheWorker 1) (TheWorker 2) (FinishedAck a1_1_1)
+          ∷ envelope (TheWorker 2) (TheNode 1) (Back a1_1_1)
+          ∷ envelope (TheWorker 1) (TheNode 1) (Unhold o1_2 o1_2 WasReleased)
           ∷ [];
       given =
           job 1 a1_0_0 main_birth o1_1 [] [] []

@@ -46,7 +46,7 @@ no_wrong_job script lines before after (n, line, between, stands, plays, stop) =
 abbrev first : List ℕ
 first = codes "raysim 2"
 
--- no line of format 1 begins with its first letter
+-- no line of format 1 begins with its first envelope
 begins_with_r : List ℕ → Bool
 begins_with_r [] = false
 begins_with_r (b ∷ rest) = b == 114

@@ -6,7 +6,7 @@ ghost use Rattle.protocol.specs.Refusals.{is_dead_node, is_dead_worker, is_ready
 ghost use Rattle.protocol.specs.Events.{is_live_node};
 ghost use Rattle.protocol.specs.Numbered.{item_at};
 ghost use Rattle.protocol.specs.Stores.{evict_refusal, lose_refusal};
-ghost use Rattle.protocol.specs.Whole.{node_at, worker_at};
+ghost use Rattle.protocol.specs.Cluster.{node_at, worker_at};
 
 use crate::jobs::commit_refusal;
 use crate::living::{is_dead_node, is_dead_worker, is_live_node, is_live_worker, is_ready};
@@ -14,10 +14,10 @@ use ids::{NodeId, ObjectId, WorkerId};
 use log_entries::{Event, Refusal};
 use number_lists::item_at_number;
 use object_store::{may_evict, may_lose};
-use protocol_data::{Handed, Whole};
+use protocol_data::{ClusterState, CommitInput};
 
 /// There is no such live worker.
-fn no_worker(whole: &Whole, number: WorkerId) -> Option<Refusal>
+fn no_worker(whole: &ClusterState, number: WorkerId) -> Option<Refusal>
     ensures { result ≡ no_worker whole.now number }
 {
     if is_live_worker(whole, number) {
@@ -27,7 +27,7 @@ fn no_worker(whole: &Whole, number: WorkerId) -> Option<Refusal>
 }
 
 /// Why a claim is refused.
-fn claim_refusal(whole: &Whole, number: WorkerId) -> Option<Refusal>
+fn claim_refusal(whole: &ClusterState, number: WorkerId) -> Option<Refusal>
     ensures { result ≡ or_refusal (no_worker whole.now number) (unless (is_ready whole.now number) NotReady) }
 {
     if !is_live_worker(whole, number) {
@@ -40,7 +40,7 @@ fn claim_refusal(whole: &Whole, number: WorkerId) -> Option<Refusal>
 }
 
 /// Why an eviction is refused.
-fn evict_refusal(whole: &Whole, number: NodeId, object: ObjectId) -> Option<Refusal>
+fn evict_refusal(whole: &ClusterState, number: NodeId, object: ObjectId) -> Option<Refusal>
     ensures { result ≡ store_refusal (evict_refusal object) (node_at whole.now number) }
 {
     let Some(node) = item_at_number(&whole.nodes, u64::from(number.0)) else {
@@ -53,7 +53,7 @@ fn evict_refusal(whole: &Whole, number: NodeId, object: ObjectId) -> Option<Refu
 }
 
 /// Why a loss is refused.
-fn lose_refusal(whole: &Whole, number: NodeId, object: ObjectId) -> Option<Refusal>
+fn lose_refusal(whole: &ClusterState, number: NodeId, object: ObjectId) -> Option<Refusal>
     ensures { result ≡ store_refusal (lose_refusal object) (node_at whole.now number) }
 {
     let Some(node) = item_at_number(&whole.nodes, u64::from(number.0)) else {
@@ -66,7 +66,7 @@ fn lose_refusal(whole: &Whole, number: NodeId, object: ObjectId) -> Option<Refus
 }
 
 /// Why a message isn't delivered.
-fn deliver_refusal(whole: &Whole, number: u64) -> Option<Refusal>
+fn deliver_refusal(whole: &ClusterState, number: u64) -> Option<Refusal>
     ensures { result ≡ unless (is_some (item_at whole.now.network number)) NoMessage }
 {
     if item_at_number(&whole.network, number).is_none() {
@@ -76,7 +76,7 @@ fn deliver_refusal(whole: &Whole, number: u64) -> Option<Refusal>
 }
 
 /// Why a worker isn't told that a worker is dead.
-fn notice_refusal(whole: &Whole, number: WorkerId, dead: WorkerId) -> Option<Refusal>
+fn notice_refusal(whole: &ClusterState, number: WorkerId, dead: WorkerId) -> Option<Refusal>
     ensures { result ≡ or_refusal (no_worker whole.now number) (unless (is_dead_worker (worker_at whole.now dead)) NotDead) }
 {
     if !is_live_worker(whole, number) {
@@ -89,7 +89,7 @@ fn notice_refusal(whole: &Whole, number: WorkerId, dead: WorkerId) -> Option<Ref
 }
 
 /// Why a worker isn't told that a node is dead.
-fn notice_node_refusal(whole: &Whole, number: WorkerId, dead: NodeId) -> Option<Refusal>
+fn notice_node_refusal(whole: &ClusterState, number: WorkerId, dead: NodeId) -> Option<Refusal>
     ensures { result ≡ or_refusal (no_worker whole.now number) (unless (is_dead_node (node_at whole.now dead)) NotDead) }
 {
     if !is_live_worker(whole, number) {
@@ -102,7 +102,7 @@ fn notice_node_refusal(whole: &Whole, number: WorkerId, dead: NodeId) -> Option<
 }
 
 /// Why a node isn't killed.
-fn kill_node_refusal(whole: &Whole, number: NodeId) -> Option<Refusal>
+fn kill_node_refusal(whole: &ClusterState, number: NodeId) -> Option<Refusal>
     ensures { result ≡ unless (is_live_node (node_at whole.now number)) NoNode }
 {
     if !is_live_node(whole, number) {
@@ -114,7 +114,7 @@ fn kill_node_refusal(whole: &Whole, number: NodeId) -> Option<Refusal>
 /// The number of the first reason for which the event is refused before it is tried, with what is handed in: 20 the copy is pinned, 21 there is
 /// no copy, 30 no such live worker, 31 it isn't ready, 32 no such job, 33 the job's worker is dead, 34 no such message, 35 what the notice tells
 /// of isn't dead, 36 no such live node.
-pub fn refusal(whole: &Whole, event: &Event, handed: &Handed) -> Option<Refusal>
+pub fn refusal(whole: &ClusterState, event: &Event, handed: &CommitInput) -> Option<Refusal>
     ensures { result ≡ refusal whole.now event.now handed.now }
 {
     match event {

@@ -11,10 +11,10 @@ use Rattle.event_log.specs.Entries.{NoJob, Refusal}
 use Rattle.event_log.specs.Rules.{Setting}
 use Rattle.histories.specs.Recorded.{recorded_in}
 use Rattle.protocol.specs.Answers.{Answer, answer, decided, logged}
-use Rattle.protocol.specs.Jobs.{Given, Handed}
+use Rattle.protocol.specs.Jobs.{JobRecord, CommitInput}
 use Rattle.protocol.specs.Numbered.{item_at}
 use Rattle.protocol.specs.Refusals.{refusal}
-use Rattle.protocol.specs.Whole.{Whole}
+use Rattle.protocol.specs.Cluster.{ClusterState}
 use Rattle.migration.specs.of_protocol_board.Cores.{beside}
 use Rattle.migration.specs.of_protocol_board.Cores.{Applies, IsApplied, IsHanded}
 use Rattle.protocol_laws.specs.Sound.{IsSound}
@@ -80,10 +80,10 @@ record Reached (script : Script) (nodes : ℕ) (first : Play) (now : RunState) :
   pub sound : IsSound (beside script nodes []) now.log now.whole
   pub given : ClaimsGaveJobs now
   pub long : length play.jobs ≡ length now.whole.jobs
-  pub jobs : (j : ℕ) (g : Given) → item_at now.whole.jobs j ≡ Some g → has_commit j now.log ≡ false → KeepsJob play.jobs now.whole j
+  pub jobs : (j : ℕ) (g : JobRecord) → item_at now.whole.jobs j ≡ Some g → has_commit j now.log ≡ false → KeepsJob play.jobs now.whole j
   pub applied : play.applied ≡ length (said_from 0 now.log)
 
-no_given : (j : ℕ) (g : Given) → item_at [] j ≡ Some g → ⊥
+no_given : (j : ℕ) (g : JobRecord) → item_at [] j ≡ Some g → ⊥
 no_given zero g e = absurd (cc)
 no_given (suc k) g e = absurd (cc)
 
@@ -103,7 +103,7 @@ module _ (script : Script) (apart : KeepsMainApart script) (nodes : ℕ) (first 
   module _ (before now : RunState) (e : Event) (seat : ℕ) (d : Option Done) (told : Reply)
       (r : Reached script nodes first before) (is_true : IsTrueDone script d) (h : Answers before e seat d now told)
       (goes_on : now.is_halted ≡ false) (once : HandsInOnce now.log) (few : length (said_from 0 now.log) ≤ 100000) where
-    abbrev c : Whole
+    abbrev c : ClusterState
     c = before.whole
 
     abbrev s : Setting
@@ -115,7 +115,7 @@ module _ (script : Script) (apart : KeepsMainApart script) (nodes : ℕ) (first 
     abbrev made : Applies before e seat d now told
     made = applies before now e seat d told h goes_on
 
-    abbrev handed : Handed
+    abbrev handed : CommitInput
     handed = made.0
 
     abbrev is : IsApplied before now e seat handed told
@@ -125,11 +125,11 @@ module _ (script : Script) (apart : KeepsMainApart script) (nodes : ℕ) (first 
     again : HandsAgain script c e r.play.jobs handed
     again = by_event e made.0 made.1 is.log
       where
-        not_out : (j : ℕ) (hd : Handed) → now.log ≡ before.log ++ logged (Commit j) seat (answer c (Commit j) hd) → refusal c (Commit j) hd ≡ Some NoJob → ⊥
+        not_out : (j : ℕ) (hd : CommitInput) → now.log ≡ before.log ++ logged (Commit j) seat (answer c (Commit j) hd) → refusal c (Commit j) hd ≡ Some NoJob → ⊥
         not_out j hd log refused =
             once.out before.log [] j seat (log ∙ ap (λ (o : Option Refusal). before.log ++ logged (Commit j) seat (decided c (Commit j) hd o)) refused)
 
-        by_event : (x : Event) (hd : Handed) → IsHanded c x d hd → now.log ≡ before.log ++ logged x seat (answer c x hd) → HandsAgain script c x r.play.jobs hd
+        by_event : (x : Event) (hd : CommitInput) → IsHanded c x d hd → now.log ≡ before.log ++ logged x seat (answer c x hd) → HandsAgain script c x r.play.jobs hd
         by_event (Commit j) hd is_handed log =
             let o : IsOfJob hd (item_at c.jobs j) = of_job c j hd (item_at c.jobs j) (not_out j hd log) in
             let f = logged_first (Commit j) seat (answer c (Commit j) hd) in
@@ -188,10 +188,10 @@ module _ (script : Script) (apart : KeepsMainApart script) (nodes : ℕ) (first 
           sound = subst (λ l. IsSound s l now.whole) (sym is.log)
               (subst (λ w. IsSound s (before.log ++ logged e seat (answer c e handed)) w) (sym is.whole) sound);
           given = (answers_counted before now e seat d told r.given h).jobs;
-          long = long_behind s before.log c r.sound r.play.jobs r.long handed told e is.told_so ∙ sym (ap (λ (w : Whole). length w.jobs) is.whole);
+          long = long_behind s before.log c r.sound r.play.jobs r.long handed told e is.told_so ∙ sym (ap (λ (w : ClusterState). length w.jobs) is.whole);
           jobs = λ j g at uncommitted. subst (λ w. KeepsJob next.jobs w j) (sym is.whole)
               (keeps_behind s before.log c r.sound r.play.jobs r.long handed told r.jobs e seat is.told_so j g
-              (ap (λ (w : Whole). item_at w.jobs j) (sym is.whole) ∙ at)
+              (ap (λ (w : ClusterState). item_at w.jobs j) (sym is.whole) ∙ at)
               (ap (has_commit j) (sym is.log) ∙ uncommitted));
           applied = omega (arith, n, a);
         }

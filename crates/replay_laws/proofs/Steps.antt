@@ -14,10 +14,10 @@ use Rattle.log_entries.specs.declared.refusal.Refusal.TheVariants as refusals
 use Rattle.numbered.proofs.Lists.{changed-length, item_within}
 use Rattle.protocol.specs.Answers.{Answer, Refuses, Step, Takes, answer, decided, given_out, logged, takes, whole_after}
 use Rattle.protocol.specs.Events.{happens}
-use Rattle.protocol.specs.Jobs.{Given, Handed, Job}
+use Rattle.protocol.specs.Jobs.{JobRecord, CommitInput, Job}
 use Rattle.protocol.specs.Numbered.{item_at}
 use Rattle.protocol.specs.Refusals.{is_within_limits, refusal}
-use Rattle.protocol.specs.Whole.{Moved, Whole}
+use Rattle.protocol.specs.Cluster.{Transition, ClusterState}
 use Rattle.migration.specs.of_protocol_board.Cores as replies
 use Rattle.migration.specs.of_protocol_board.Cores.{Accepts, GivesJob, GivesThat, IsOut, Reply, Tells}
 use Rattle.protocol_laws.specs.Sound.{IsSound}
@@ -34,16 +34,16 @@ use Rattle.replay_laws.proofs.Handing.{KeepsJob}
 
 -- ---- refused or taken
 
-abbrev IsRefused : Whole → Event → Handed → Type 0
+abbrev IsRefused : ClusterState → Event → CommitInput → Type 0
 IsRefused c e h = (code : Refusal) × (answer c e h ≡ Refuses code) × (is_logged code ≡ true)
 
-abbrev IsTaken : Whole → Event → Handed → Type 0
+abbrev IsTaken : ClusterState → Event → CommitInput → Type 0
 IsTaken c e h = (refusal c e h ≡ None) × (answer c e h ≡ takes (happens c e h) (given_out c e))
 
-answered : (c : Whole) (e : Event) (h : Handed) → IsRefused c e h ⊎ IsTaken c e h
+answered : (c : ClusterState) (e : Event) (h : CommitInput) → IsRefused c e h ⊎ IsTaken c e h
 answered c e h = go (refusal c e h) refl
   where
-    m : Moved
+    m : Transition
     m = happens c e h
 
     go : (o : Option Refusal) → refusal c e h ≡ o → IsRefused c e h ⊎ IsTaken c e h
@@ -63,7 +63,7 @@ given_memory None told h = ap found_no_memory h
 given_memory (Some job) told h = ap found_no_memory h
 
 -- what is told of an answer found memory
-pub told_memory : (c : Whole) (e : Event) (h : Handed) (told : Reply) → Tells (answer c e h) told → found_no_memory told ≡ false
+pub told_memory : (c : ClusterState) (e : Event) (h : CommitInput) (told : Reply) → Tells (answer c e h) told → found_no_memory told ≡ false
 told_memory c e h told tells = elim (answered c e h) [
   | inl (code, is, low) ↦
       let t : Tells (Refuses code) told = subst (λ a. Tells a told) is tells in
@@ -112,8 +112,8 @@ none_behind xs (suc k) h e = let i = beyond xs k e in omega (arith, i)
 none_is_some : {X : Type 0} (x : X) → None ≡ Some x → ⊥
 none_is_some x e = cc
 
-module _ (s : Setting) (log : List Entry) (c : Whole) (sound : IsSound s log c) (jobs : List (Option JobParts))
-    (long : length jobs ≡ length c.jobs) (h : Handed) (told : Reply) where
+module _ (s : Setting) (log : List Entry) (c : ClusterState) (sound : IsSound s log c) (jobs : List (Option JobParts))
+    (long : length jobs ≡ length c.jobs) (h : CommitInput) (told : Reply) where
   -- the job that is told of a claim that was taken
   told_job : (w : ℕ) → refusal c (Claim w) h ≡ None → GivesThat (given_out c (Claim w)) told →
       (job : JobParts) × (told ≡ GivesJob job) × (given_out c (Claim w) ≡ Some job)
@@ -152,10 +152,10 @@ module _ (s : Setting) (log : List Entry) (c : Whole) (sound : IsSound s log c) 
       length c.jobs < j → j < 1 + (length c.jobs + length (claim_in e)) → KeepsJob (with_given told (left_by e jobs)) (happens c e h).whole j
   new_job (Claim w) j r is gives low high =
       let t = told_job w r gives in
-      let m : Moved = happens c (Claim w) h in
+      let m : Transition = happens c (Claim w) h in
       let same : j ≡ length c.jobs + 1 = omega (arith, low, high) in
       let last : j ≡ length jobs + 1 = omega (arith, same, long) in
-      let step : Step = record { whole = m.whole; entries = m.out.entries; letters = m.out.letters; given = given_out c (Claim w) } in
+      let step : Step = record { whole = m.whole; entries = m.out.entries; envelopes = m.out.envelopes; given = given_out c (Claim w) } in
       record {
         job = t.0;
         there = subst (λ u. job_at (with_given u jobs) j ≡ Some t.0) (sym t.1) (ap option_flatten (item_last jobs (Some t.0) j last));
@@ -164,8 +164,8 @@ module _ (s : Setting) (log : List Entry) (c : Whole) (sound : IsSound s log c) 
   new_job e j r is gives low high = absurd (omega (arith, low, high))
 
   -- each job of which the log has no commit
-  pub keeps_behind : ((j : ℕ) (g : Given) → item_at c.jobs j ≡ Some g → has_commit j log ≡ false → KeepsJob jobs c j) → (e : Event) (seat : ℕ) →
-      Tells (answer c e h) told → (j : ℕ) (g : Given) → item_at (whole_after c (answer c e h)).jobs j ≡ Some g →
+  pub keeps_behind : ((j : ℕ) (g : JobRecord) → item_at c.jobs j ≡ Some g → has_commit j log ≡ false → KeepsJob jobs c j) → (e : Event) (seat : ℕ) →
+      Tells (answer c e h) told → (j : ℕ) (g : JobRecord) → item_at (whole_after c (answer c e h)).jobs j ≡ Some g →
       has_commit j (log ++ logged e seat (answer c e h)) ≡ false →
       KeepsJob (with_given told (left_by e jobs)) (whole_after c (answer c e h)) j
   keeps_behind keeps e seat tells j g at uncommitted = go (item_at c.jobs j) refl
@@ -176,7 +176,7 @@ module _ (s : Setting) (log : List Entry) (c : Whole) (sound : IsSound s log c) 
       before : (has_commit j log ≡ false) × (e ≡ Commit j → ⊥)
       before = no_commit j log entries.0 e seat (ap (λ es. has_commit j (log ++ es)) (sym entries.1) ∙ uncommitted)
 
-      go : (o : Option Given) → item_at c.jobs j ≡ o → KeepsJob (with_given told (left_by e jobs)) (whole_after c (answer c e h)) j
+      go : (o : Option JobRecord) → item_at c.jobs j ≡ o → KeepsJob (with_given told (left_by e jobs)) (whole_after c (answer c e h)) j
       go (Some first) was = old_job e j before.1 (keeps j first was before.0)
       go None none = elim (answered c e h) [
         | inl (code, is, low) ↦ absurd (none_is_some g (sym none ∙ sym (ap (λ a. item_at (whole_after c a).jobs j) is) ∙ at))

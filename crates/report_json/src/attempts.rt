@@ -5,15 +5,15 @@ ghost use Rattle.serde_json.specs.Data.{array};
 ghost use Rattle.serde_json.specs.View.{view, items_of};
 ghost use Rattle.std.specs.List.{flat_map};
 ghost use Rattle.event_log.specs.Entries as logged;
-ghost use Rattle.history.specs.Attempts.{AreStatesOf};
-ghost use Rattle.history.specs.Texts.{attempt_text};
+ghost use Rattle.report_text.specs.Attempts.{AreStatesOf};
+ghost use Rattle.report_text.specs.Texts.{attempt_text};
 ghost use Rattle.report_json.specs.Attempts.{attempt_data, attempt_in};
 
 use crate::value::array_of;
-use history::AttemptStates;
-use history::main_end::is_main;
 use ids::{AttemptId, WorkerId};
 use log_entries::Entry;
+use report_text::AttemptStates;
+use report_text::main_end::is_main;
 use serde_json::{Value, json};
 use std::alloc::{AllocError, Global};
 

@@ -7,9 +7,9 @@ ghost use Rattle.std.specs.List.{flat_map};
 ghost use Rattle.report_json.specs.Objects.{print_in, release_in, resolve_data, resolve_in};
 
 use crate::value::{array_of, id_json, value_json};
-use history::kind_name;
 use ids::ObjectId;
 use log_entries::Entry;
+use report_text::kind_name;
 use serde_json::{Value, json};
 use std::alloc::{AllocError, Global};
 use values::Fault;

@@ -3,14 +3,14 @@
 ghost use Rattle.std.specs.Prelude.{◌≡◌, IfOk};
 ghost use Rattle.serde_json.specs.View.{view};
 ghost use Rattle.values.specs.Values.{content_of};
-ghost use Rattle.history.specs.Main.{main_end, main_fault};
+ghost use Rattle.report_text.specs.Main.{main_end, main_fault};
 ghost use Rattle.report_json.specs.Main.{end_data, unended_data, main_data};
 
 use crate::value::{id_json, value_json};
-use history::kind_name;
-use history::main_end::{main_end, main_fault};
 use log_entries::Entry;
 use report::trap_name;
+use report_text::kind_name;
+use report_text::main_end::{main_end, main_fault};
 use serde_json::{Value, json};
 use std::alloc::{AllocError, Global};
 use values::{Content, Fault};

@@ -38,7 +38,7 @@ fn compact(alloc: Global, log: &[Entry]) -> Result<String, AllocError>
     report_value(alloc, log)?.to_string(alloc)
 }
 
-/// The report of a log as JSON, on one line that ends with a line feed: what `history::report_text` says of the log, as one object
+/// The report of a log as JSON, on one line that ends with a line feed: what `report_text::report_text` says of the log, as one object
 /// with no spaces and its keys in the order of their bytes. `attempts` has objects with `attempt`, `state` and `worker`; `main` has
 /// `end`, which is `value`, `trap`, `fault` or `open`, and beside it the `value`, the `trap`, or `fault` and `named`; `prints` has
 /// values; `refused` has objects with `code` and `event`, `released` ids, and `resolved` objects with `fault`, `named` and `object`.

@@ -11,7 +11,7 @@ use Rattle.event_files.specs.declared.event_file.EventFile.{EventFile}
 use Rattle.event_log.specs.Entries.{Entry}
 use Rattle.log_words.specs.declared.contents.Contents.{Contents}
 use Rattle.page_text.specs.Text.{page_text}
-use Rattle.protocol.specs.Whole.{Whole}
+use Rattle.protocol.specs.Cluster.{ClusterState}
 use Rattle.protocol_board.specs.Cores.{Size}
 use Rattle.protocol_board.specs.Replays.{Play}
 use Rattle.script_commands.specs.Scripts.{IsScript}
@@ -41,7 +41,7 @@ pub page_so : (script : Script) (size : Size) (how : Contents) (says : EventFile
 page_so script size how says play text page status so made = record { play = play; replayed = so; shown = made.0; status_is = made.1 }
 
 -- equal parts make equal pages
-pub page_same : (how : Contents) (text text' : List ℕ) (nodes nodes' slots slots' : ℕ) (log log' : List Entry) (sent sent' : List ℕ) (whole whole' : Whole) →
+pub page_same : (how : Contents) (text text' : List ℕ) (nodes nodes' slots slots' : ℕ) (log log' : List Entry) (sent sent' : List ℕ) (whole whole' : ClusterState) →
     text ≡ text' → nodes ≡ nodes' → slots ≡ slots' → log ≡ log' → sent ≡ sent' → whole ≡ whole' →
     page_text how text nodes slots log sent whole ≡ page_text how text' nodes' slots' log' sent' whole'
 page_same how text text' nodes nodes' slots slots' log log' sent sent' whole whole' t n s l m w =

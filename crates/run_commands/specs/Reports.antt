@@ -3,7 +3,7 @@ use Rattle.std.specs.Prelude.{◌≡◌, ℕ, List, ◌++◌, codes}
 use Rattle.meaning.specs.Syntax.{Script}
 use Rattle.serde_json.specs.Written.{compact_text}
 use Rattle.event_log.specs.Entries.{Entry}
-use Rattle.history.specs.Report.{report_text}
+use Rattle.report_text.specs.Report.{report_text}
 use Rattle.books.specs.Lines.{book_lines}
 use Rattle.report_laws.specs.Begins.{BeginsAsSerial}
 use Rattle.report_laws.specs.Json.{SaysAsSerial}
@@ -14,12 +14,12 @@ use Rattle.why_text.specs.Text.{why_text}
 use Rattle.limit_text.specs.Text.{limit_text}
 use Rattle.lineage_text.specs.Text.{lineage_text}
 use Rattle.message_text.specs.Text.{log_with_messages}
-use Rattle.party_text.specs.Text.{node_account, worker_account}
+use Rattle.endpoint_text.specs.Text.{node_account, worker_account}
 use Rattle.state_text.specs.Text.{event_count, state_text}
 use Rattle.summary_text.specs.Text.{summary_text}
 use Rattle.timeline.specs.Text.{timeline_data}
-use Rattle.protocol.specs.Messages.{Letter}
-use Rattle.protocol.specs.Whole.{Whole}
+use Rattle.protocol.specs.Messages.{Envelope}
+use Rattle.protocol.specs.Cluster.{ClusterState}
 use Rattle.protocol_board.specs.Cores.{RunState}
 use Rattle.protocol_board.specs.Reports.{json_text}
 use Rattle.run_commands.specs.declared.form.Form.{Form}
@@ -29,8 +29,8 @@ use Rattle.run_commands.specs.declared.form.Form.TheVariants as forms
 -- of the event file from which the events came, as far as they came from one
 pub record Account : Type 0 where
   pub log : List Entry
-  pub messages : List Letter
-  pub whole : Whole
+  pub messages : List Envelope
+  pub whole : ClusterState
   pub sent : List ℕ
   pub lines : List ℕ
 
@@ -38,7 +38,7 @@ abbrev pub account_of : RunState → List ℕ → List ℕ → Account
 account_of c sent lines = record { log = c.log; messages = c.whole.network; whole = c.whole; sent = sent; lines = lines }
 
 -- the timeline of a log with its messages, on one line
-abbrev pub timeline_text : Contents → List Entry → List Letter → List ℕ → List ℕ
+abbrev pub timeline_text : Contents → List Entry → List Envelope → List ℕ → List ℕ
 timeline_text how log messages sent = compact_text (timeline_data how log messages sent) ++ codes "\n"
 
 -- a timeline is made of entries as the code has them, and the log is what they stand for

@@ -2,7 +2,7 @@
 use Rattle.std.specs.Prelude.{◌≡◌, ◌⊎◌, ℕ, false, List, [], Option, take, IfSome}
 use Rattle.std.specs.Io.KnownBytes.{Appends}
 use Rattle.meaning.specs.Syntax.{Script}
-use Rattle.history.specs.Main.{status_of}
+use Rattle.report_text.specs.Main.{status_of}
 use Rattle.protocol_board.specs.Cores.{Size, first_state}
 use Rattle.protocol_board.specs.Cores.{IsSoundLog}
 use Rattle.protocol_board.specs.declared.unfinished.Unfinished.{Unfinished}

@@ -2,15 +2,15 @@
 
 ghost use Rattle.std.specs.Prelude.{◌≡◌, ◌++◌, IfOk, string_bytes};
 ghost use Rattle.books.specs.Lines.{book_lines};
-ghost use Rattle.history.specs.Report.{report_text};
+ghost use Rattle.report_text.specs.Report.{report_text};
 ghost use Rattle.protocol_board.specs.Cores.{IsSoundLog};
 ghost use Rattle.run_commands.specs.Reports.{IsReportIn, account_of};
 ghost use Rattle.state_text.specs.Text.{event_count, state_text};
 ghost use Rattle.summary_text.specs.Text.{summary_text};
 
 use books::book_lines;
+use endpoint_text::{node_text, worker_text};
 use fault_runs::Board;
-use history::report_text;
 use ids::{NodeId, ObjectId, WorkerId};
 use limit_text::limit_text;
 use lineage_text::lineage_text;
@@ -19,9 +19,9 @@ use log_text::log_text;
 use log_words::Contents;
 use main_text::main_text;
 use message_text::log_with_messages;
-use party_text::{node_text, worker_text};
-use protocol_data::{Letter, Whole};
+use protocol_data::{ClusterState, Envelope};
 use report_json::report_json;
+use report_text::report_text;
 use segment::ScriptName;
 use sequence::Seq;
 use state_text::{event_count, state_text};
@@ -77,7 +77,7 @@ fn report_with_books(alloc: Global, log: &[Entry]) -> Result<String, AllocError>
 fn report_with_summary(
     alloc: Global,
     log: &[Entry],
-    messages: &[Letter],
+    messages: &[Envelope],
 ) -> Result<String, AllocError>
     ensures { IfOk result (λ text. string_bytes text ≡ report_text log.now ++ summary_text log.now messages.now) }
 {
@@ -88,7 +88,7 @@ fn report_with_summary(
 }
 
 /// What is alive in the run as it is.
-fn state_now(alloc: Global, log: &[Entry], whole: &Whole) -> Result<String, AllocError>
+fn state_now(alloc: Global, log: &[Entry], whole: &ClusterState) -> Result<String, AllocError>
     ensures { IfOk result (λ text. string_bytes text ≡ state_text log.now whole.now (event_count log.now)) }
 {
     state_text(alloc, log, whole, event_count(log))
@@ -98,8 +98,8 @@ fn state_now(alloc: Global, log: &[Entry], whole: &Whole) -> Result<String, Allo
 fn report_of(
     alloc: Global,
     log: &[Entry],
-    messages: &[Letter],
-    whole: &Whole,
+    messages: &[Envelope],
+    whole: &ClusterState,
     sent: &[usize],
     lines: &[usize],
     form: Form,

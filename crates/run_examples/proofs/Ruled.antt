@@ -15,10 +15,10 @@ use Rattle.event_log.specs.Rules.{Setting}
 use Rattle.event_log.specs.Words.{came_in, events}
 use Rattle.protocol.specs.Answers.{Answer, Refuses, Step, Takes, answer, decided, given_out, logged, takes}
 use Rattle.protocol.specs.Events.{happens}
-use Rattle.protocol.specs.Jobs.{Handed}
+use Rattle.protocol.specs.Jobs.{CommitInput}
 use Rattle.protocol.specs.Refusals.{is_within_limits, refusal}
 use Rattle.protocol.specs.Settling.{next}
-use Rattle.protocol.specs.Whole.{Whole, first_whole}
+use Rattle.protocol.specs.Cluster.{ClusterState, first_whole}
 use Rattle.protocol_owed.specs.Runs.{Handing, Running, after_event, after_events, answer_to, opening_run}
 use Rattle.protocol_owed.proofs.Counting.{happens-counted, not_refused}
 use Rattle.seats.specs.of_count_laws.Law.{IsReached}
@@ -87,7 +87,7 @@ opening_is_not_over script is_open plan size cluster r sound over e =
 -- ---- a tick that is refused at once
 
 -- no entry of an event that is taken says that it is refused
-taken_says_none : (c : Whole) (e : Event) (handed : Handed) (step : Step) → answer c e handed ≡ Takes step → refused_next step.entries ≡ false
+taken_says_none : (c : ClusterState) (e : Event) (handed : CommitInput) (step : Step) → answer c e handed ≡ Takes step → refused_next step.entries ≡ false
 taken_says_none c e handed step i = go (refusal c e handed) i
   where
     quiet : takes (happens c e handed) (given_out c e) ≡ Takes step → refused_next step.entries ≡ false
@@ -107,7 +107,7 @@ abbrev refused_tick : List Entry
 refused_tick = In (Tick 1) 1 ∷ Refused Limit ∷ []
 
 -- what one event adds is the refused tick only where it is that tick, and refused so
-was_refused : (c : Whole) (g : Handing) (a : Answer) → answer c g.event g.handed ≡ a → logged g.event g.seat a ≡ refused_tick → (g.event ≡ Tick 1) × (a ≡ Refuses Limit)
+was_refused : (c : ClusterState) (g : Handing) (a : Answer) → answer c g.event g.handed ≡ a → logged g.event g.seat a ≡ refused_tick → (g.event ≡ Tick 1) × (a ≡ Refuses Limit)
 was_refused c g (Takes step) i e =
     let k : step.entries ≡ Refused Limit ∷ [] = cc in
     let none : refused_next step.entries ≡ false = taken_says_none c g.event g.handed step i in
@@ -139,7 +139,7 @@ tick_is_not_full s g e (inr (inl i)) =
     omega (arith, j)
 tick_is_not_full s g e (inr (inr i)) = ticks g.event g.handed e i
   where
-    ticks : (x : Event) (handed : Handed) → x ≡ Tick 1 → 1000000 < (counted s opening).objects + borne x handed → ⊥
+    ticks : (x : Event) (handed : CommitInput) → x ≡ Tick 1 → 1000000 < (counted s opening).objects + borne x handed → ⊥
     ticks (Tick w) handed e i =
         let j : 1000000 < 1 = i in
         omega (arith, j)

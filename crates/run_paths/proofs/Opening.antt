@@ -5,7 +5,7 @@ use Rattle.std.proofs.lemmas.List.{append_cancel_left}
 use Rattle.event_log.specs.Entries.{Entry, Event, In, Refused}
 use Rattle.event_log.specs.Legal.{opening}
 use Rattle.protocol.specs.Answers.{Answer, Refuses, Takes, logged}
-use Rattle.protocol.specs.Whole.{Whole, first_whole}
+use Rattle.protocol.specs.Cluster.{ClusterState, first_whole}
 use Rattle.protocol_owed.specs.Runs.{Handing, Running, after_event, after_events, answer_to, opening_run}
 use Rattle.protocol_board.specs.Cores.{IsReached}
 use Rattle.protocol_board.specs.Cores.{IsReachedRun, RunState, beside, first_state}
@@ -40,7 +40,7 @@ first_stays nodes slots (g ∷ gs) e =
     let j : In g.event g.seat ∷ k.0 ≡ [] = append_cancel_left opening (In g.event g.seat ∷ k.0) [] i in
     absurd (cc)
 
-state_parts : (log : List Entry) (whole other : Whole) (nodes : ℕ) (halted : Bool) → log ≡ opening → whole ≡ other → halted ≡ false →
+state_parts : (log : List Entry) (whole other : ClusterState) (nodes : ℕ) (halted : Bool) → log ≡ opening → whole ≡ other → halted ≡ false →
     ◌≡◌ {A = RunState} (record { log = log; whole = whole; first_nodes = nodes; is_halted = halted })
     (record { log = opening; whole = other; first_nodes = nodes; is_halted = false })
 state_parts log whole other nodes halted e f g = cc
@@ -52,6 +52,6 @@ none_came script r k e goes_on =
     sym (ap (λ (x : Running). x.whole) at.leads)
     ∙ first_stays r.first_nodes k.slots at.handings (ap (λ (x : Running). x.log) at.leads ∙ k.log ∙ e) in
     let first : r.whole ≡ first_whole r.first_nodes k.slots = sym (k.whole goes_on) ∙ whole in
-    let slots : r.whole.slots ≡ k.slots = ap (λ (c : Whole). c.slots) first in
+    let slots : r.whole.slots ≡ k.slots = ap (λ (c : ClusterState). c.slots) first in
     state_parts r.log r.whole (first_whole r.first_nodes r.whole.slots) r.first_nodes r.is_halted e
     (first ∙ ap (first_whole r.first_nodes) (sym slots)) goes_on

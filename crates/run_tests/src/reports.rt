@@ -1,9 +1,9 @@
 // The report of a log in which a fault spreads, objects are released, and an event is refused.
 
-use held::{Origin, Printed, SharedContent};
-use history::{report_text, status_of};
+use held::{Printed, SharedBirth, SharedContent};
 use ids::{AttemptId, NodeId, ObjectId, WorkerId};
 use log_entries::{Entry, Event, Refusal, only_content};
+use report_text::{report_text, status_of};
 use std::alloc::{AllocError, Global};
 use std::rt::HostRuntime;
 use std::test::Fail;
@@ -64,7 +64,7 @@ fn faults(alloc: Global) -> Result<Vec<Entry>, AllocError> {
     };
     let items = vec![in alloc; RunValue::Int(-3), RunValue::Id(object(1, 2))]?;
     let value = RunValue::List(items);
-    let birth = Origin::new(alloc, Birth::Put(RunValue::Int(6)))?;
+    let birth = SharedBirth::new(alloc, Birth::Put(RunValue::Int(6)))?;
     let content = SharedContent::new(alloc, values::Content::Trap(Trap::Loop))?;
     let shared = content.copy(alloc)?;
     let contents = only_content(alloc, content)?;

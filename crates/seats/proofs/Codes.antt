@@ -7,10 +7,10 @@ use Rattle.meaning.specs.Values.{Id}
 use Rattle.event_log.specs.Entries.{Event, Claim, Commit, Deliver, Tick, Notice, NoticeNode, Evict, Lose, Kill, KillNode, Join}
 use Rattle.event_log.specs.Entries.{Refusal, Pinned, NoCopy, NoWorker, NotReady, NoJob, Stale, NoMessage, NotDead, NoNode}
 use Rattle.protocol.specs.Numbered.{item_at}
-use Rattle.protocol.specs.Jobs.{Given, Handed}
+use Rattle.protocol.specs.Jobs.{JobRecord, CommitInput}
 use Rattle.protocol.specs.Stores.{Store, evict_refusal, is_of, lose_refusal}
 use Rattle.protocol.specs.Nodes.{Node}
-use Rattle.protocol.specs.Whole.{Whole, node_at, worker_at}
+use Rattle.protocol.specs.Cluster.{ClusterState, node_at, worker_at}
 use Rattle.protocol.specs.Events.{is_live_node, is_live_worker}
 use Rattle.protocol.specs.Refusals.{commit_refusal, is_dead_node, is_dead_worker, is_of_job, is_out_by}
 use Rattle.protocol.specs.Refusals.{is_ready, no_worker, or_refusal, refusal, store_refusal, unless}
@@ -43,17 +43,17 @@ store_low : (f : Store → Option Refusal) → ((s : Store) → is_low (f s) ≡
 store_low f h None = refl
 store_low f h (Some n) = if_low n.is_live (f n.store) (Some NoNode) (h n.store) refl
 
-commit_low : (c : Whole) (j : ℕ) (handed : Handed) (g : Option Given) → is_low (commit_refusal c j handed g) ≡ true
+commit_low : (c : ClusterState) (j : ℕ) (handed : CommitInput) (g : Option JobRecord) → is_low (commit_refusal c j handed g) ≡ true
 commit_low c j handed None = refl
 commit_low c j handed (Some g) =
     or_low (unless (not g.is_committed && is_of_job handed && is_out_by (worker_at c g.worker) j) NoJob) (unless (is_live_worker (worker_at c g.worker)) Stale)
     (unless_low (not g.is_committed && is_of_job handed && is_out_by (worker_at c g.worker) j) NoJob refl)
     (unless_low (is_live_worker (worker_at c g.worker)) Stale refl)
 
-no_worker_low : (c : Whole) (w : ℕ) → is_low (no_worker c w) ≡ true
+no_worker_low : (c : ClusterState) (w : ℕ) → is_low (no_worker c w) ≡ true
 no_worker_low c w = unless_low (is_live_worker (worker_at c w)) NoWorker refl
 
-pub refusal_low : (c : Whole) (e : Event) (handed : Handed) → is_low (refusal c e handed) ≡ true
+pub refusal_low : (c : ClusterState) (e : Event) (handed : CommitInput) → is_low (refusal c e handed) ≡ true
 refusal_low c (Claim w) handed = or_low (no_worker c w) (unless (is_ready c w) NotReady) (no_worker_low c w) (unless_low (is_ready c w) NotReady refl)
 refusal_low c (Commit j) handed = commit_low c j handed (item_at c.jobs j)
 refusal_low c (Deliver k) handed = unless_low (is_some (item_at c.network k)) NoMessage refl

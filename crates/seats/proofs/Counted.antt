@@ -12,8 +12,8 @@ use Rattle.event_log.specs.Books.{Totals, totals_of}
 use Rattle.event_log.specs.Laws.{plus, nothing, accepted_totals, answered_totals}
 use Rattle.event_log.proofs.BookLaws.{totals-event}
 use Rattle.event_log.proofs.EventLaws.{accepted-refused, claims-event}
-use Rattle.protocol.specs.Jobs.{Handed, Job}
-use Rattle.protocol.specs.Whole.{Whole, Moved}
+use Rattle.protocol.specs.Jobs.{CommitInput, Job}
+use Rattle.protocol.specs.Cluster.{ClusterState, Transition}
 use Rattle.protocol.specs.Events.{happens}
 use Rattle.protocol.specs.Refusals.{is_within_limits, refusal}
 use Rattle.protocol.specs.Answers.{Answer, Refuses, answer, decided, given_out, logged, takes, whole_after}
@@ -36,14 +36,14 @@ told_job : (w n : ℕ) (job : Job) (told : Reply) → job.number ≡ n + 1 → G
 told_job w n job told number h =
     ap (counted (Claim w)) h ∙ ap (λ k. record one_event { given = k }) number
 
-told_claim : (c : Whole) (w : ℕ) (handed : Handed) (told : Reply) (n : ℕ) → n ≡ length c.jobs → refusal c (Claim w) handed ≡ None →
+told_claim : (c : ClusterState) (w : ℕ) (handed : CommitInput) (told : Reply) (n : ℕ) → n ≡ length c.jobs → refusal c (Claim w) handed ≡ None →
     GivesThat (given_out c (Claim w)) told →
     counted (Claim w) told ≡ taken_by n (Claim w)
 told_claim c w handed told n same r h =
     let g = claim_gives c w handed r in
     told_job w n g.0 told (g.2 ∙ ap (λ k. k + 1) (sym same)) (subst (λ o. GivesThat o told) g.1 h)
 
-told_taken : (c : Whole) (e : Event) (handed : Handed) (told : Reply) (n : ℕ) → n ≡ length c.jobs → refusal c e handed ≡ None →
+told_taken : (c : ClusterState) (e : Event) (handed : CommitInput) (told : Reply) (n : ℕ) → n ≡ length c.jobs → refusal c e handed ≡ None →
     GivesThat (given_out c e) told → counted e told ≡ taken_by n e
 told_taken c (Claim w) handed told n same r h = told_claim c w handed told n same r h
 told_taken c (Commit j) handed told n same r h = ap (counted (Commit j)) h
@@ -63,12 +63,12 @@ told_taken c Join handed told n same r h = ap (counted Join) h
 abbrev CountsFrom : ℕ → List Entry → Event → ℕ → Answer → Reply → Type 0
 CountsFrom w log e seat a told = seat_totals w (log ++ logged e seat a) ≡ plus (seat_totals w log) (from_seat w seat (counted e told))
 
-abbrev Counts : List Entry → Whole → Event → ℕ → Answer → Reply → Type 0
+abbrev Counts : List Entry → ClusterState → Event → ℕ → Answer → Reply → Type 0
 Counts log c e seat a told =
     (totals_of (log ++ logged e seat a) ≡ plus (totals_of log) (counted e told)) × (length (claims (log ++ logged e seat a)) ≡ length (whole_after c a).jobs)
     × ((w : ℕ) → CountsFrom w log e seat a told)
 
-refused_counts : (log : List Entry) (c : Whole) (e : Event) (seat : ℕ) (code : Refusal) (told : Reply) → length (claims log) ≡ length c.jobs → is_logged code ≡ true →
+refused_counts : (log : List Entry) (c : ClusterState) (e : Event) (seat : ℕ) (code : Refusal) (told : Reply) → length (claims log) ≡ length c.jobs → is_logged code ≡ true →
     Tells (Refuses code) told →
     Counts log c e seat (Refuses code) told
 refused_counts log c e seat code told same low h =
@@ -78,11 +78,11 @@ refused_counts log c e seat code told same low h =
       λ w. seat_totals-event w log e seat (Refused code ∷ []) refl ∙ ap (λ t. plus (seat_totals w log) (from_seat w seat t)) (sym f),
     )
 
-taken_counts : (log : List Entry) (c : Whole) (e : Event) (seat : ℕ) (handed : Handed) (told : Reply) → length (claims log) ≡ length c.jobs →
+taken_counts : (log : List Entry) (c : ClusterState) (e : Event) (seat : ℕ) (handed : CommitInput) (told : Reply) → length (claims log) ≡ length c.jobs →
     refusal c e handed ≡ None →
     GivesThat (given_out c e) told → Counts log c e seat (takes (happens c e handed) (given_out c e)) told
 taken_counts log c e seat handed told same r h =
-    let m : Moved = happens c e handed in
+    let m : Transition = happens c e handed in
     let es : List Entry = m.out.entries in
     let q : are_parts es ≡ true = (happens-counted c e handed).quiet in
     let n = length (claims log) in
@@ -99,19 +99,19 @@ taken_counts log c e seat handed told same r h =
           ∙ ap (λ t. plus (seat_totals w log) (from_seat w seat t)) (sym (told_taken c e handed told n same r h)),
     )
 
-limited_counts : (log : List Entry) (c : Whole) (e : Event) (seat : ℕ) (handed : Handed) (told : Reply) → length (claims log) ≡ length c.jobs →
+limited_counts : (log : List Entry) (c : ClusterState) (e : Event) (seat : ℕ) (handed : CommitInput) (told : Reply) → length (claims log) ≡ length c.jobs →
     refusal c e handed ≡ None →
     (b : Bool) → Tells (if b then takes (happens c e handed) (given_out c e) else Refuses Limit) told →
     Counts log c e seat (if b then takes (happens c e handed) (given_out c e) else Refuses Limit) told
 limited_counts log c e seat handed told same r true h = taken_counts log c e seat handed told same r h
 limited_counts log c e seat handed told same r false h = refused_counts log c e seat Limit told same refl h
 
-decided_counts : (log : List Entry) (c : Whole) (e : Event) (seat : ℕ) (handed : Handed) (told : Reply) → length (claims log) ≡ length c.jobs →
+decided_counts : (log : List Entry) (c : ClusterState) (e : Event) (seat : ℕ) (handed : CommitInput) (told : Reply) → length (claims log) ≡ length c.jobs →
     (o : Option Refusal) → refusal c e handed ≡ o → is_low o ≡ true → Tells (decided c e handed o) told → Counts log c e seat (decided c e handed o) told
 decided_counts log c e seat handed told same None r low h = limited_counts log c e seat handed told same r (is_within_limits (happens c e handed).whole) h
 decided_counts log c e seat handed told same (Some code) r low h = refused_counts log c e seat code told same low h
 
-answer_counts : (log : List Entry) (c : Whole) (e : Event) (seat : ℕ) (handed : Handed) (told : Reply) → length (claims log) ≡ length c.jobs →
+answer_counts : (log : List Entry) (c : ClusterState) (e : Event) (seat : ℕ) (handed : CommitInput) (told : Reply) → length (claims log) ≡ length c.jobs →
     Tells (answer c e handed) told → Counts log c e seat (answer c e handed) told
 answer_counts log c e seat handed told same h = decided_counts log c e seat handed told same (refusal c e handed) refl (refusal_low c e handed) h
 
@@ -164,7 +164,7 @@ answers_counted before after e seat done told same h = by_halt before.is_halted 
         let k = answer_counts before.log before.whole e seat handed told (same goes) is.told_so in record {
           totals = ap totals_of is.log ∙ k.0;
           of_seat = λ w. ap (seat_totals w) is.log ∙ k.2 w;
-          jobs = λ f. ap (λ l. length (claims l)) is.log ∙ (k.1 ∙ sym (ap (λ (c : Whole). length c.jobs) is.whole));
+          jobs = λ f. ap (λ l. length (claims l)) is.log ∙ (k.1 ∙ sym (ap (λ (c : ClusterState). length c.jobs) is.whole));
         }
 
     by_halt : (b : Bool) → before.is_halted ≡ b → IsCounted before e seat after told

@@ -10,7 +10,7 @@ use Rattle.std.specs.declared.sync.ledger.Ledger as ledger
 use Rattle.sequence.specs.contracts.Seq as Seq
 use Rattle.values.proofs.value.RunValue.TheLaws.TheKnot as value
 use Rattle.held.specs.contracts.content.SharedContent as SharedContent
-use Rattle.held.specs.contracts.origin.Origin as Origin
+use Rattle.held.specs.contracts.shared_birth.SharedBirth as SharedBirth
 use Rattle.held.specs.contracts.printed.Printed as Printed
 use Rattle.ids.specs.contracts.node.NodeId as NodeId
 use Rattle.ids.specs.contracts.object.ObjectId as ObjectId
@@ -29,9 +29,9 @@ use Rattle.frame_code.specs.contracts.instruction.Code as Code
 use Rattle.frame_code.specs.contracts.instruction.Instruction as Instruction
 use Rattle.frames.specs.contracts.compiled.Compiled as Compiled
 use Rattle.segment.specs.declared.script_name.ScriptName as script_name
-use Rattle.protocol_data.proofs.message.Party.TheSendSync as party
+use Rattle.protocol_data.proofs.message.Endpoint.TheSendSync as endpoint
 use Rattle.lru.proofs.Crosses.{Deed-send, KeyRef-send, List-send}
-use Rattle.protocol_data.specs.contracts.message.Letter as Letter
+use Rattle.protocol_data.specs.contracts.message.Envelope as Envelope
 use Rattle.protocol_data.specs.contracts.objects.Objects as Objects
 use Rattle.protocol_data.specs.contracts.secondaries.CopyKey as CopyKey
 use Rattle.protocol_data.specs.contracts.secondaries.Secondaries as Secondaries
@@ -39,7 +39,7 @@ use Rattle.protocol_data.specs.contracts.tables.Object as Object
 use Rattle.protocol_data.specs.contracts.message.Message as Message
 use Rattle.protocol_data.specs.contracts.node.Node as Node
 use Rattle.protocol_data.specs.contracts.tables.Worker as Worker
-use Rattle.protocol_data.specs.contracts.whole.Whole as Whole
+use Rattle.protocol_data.specs.contracts.cluster_state.ClusterState as ClusterState
 use Rattle.run_paths.specs.of_protocol_board.Cores.Core as Core
 use Rattle.run_paths.specs.of_protocol_board.contracts.board.Board as Board
 use Rattle.seat_books.proofs.ledgers.Ledgers.TheSendSync as ledgers
@@ -67,8 +67,8 @@ compiled_sync = search (checked_sync, code_sync, crosses, sendable) depth 60 fit
 content_send : IsSend SharedContent.the_row
 content_send = search (value.crosses, crosses, sendable) depth 60 fits 20000
 
-origin_send : IsSend Origin.the_row
-origin_send = search (value.crosses, crosses, sendable) depth 60 fits 20000
+birth_send : IsSend SharedBirth.the_row
+birth_send = search (value.crosses, crosses, sendable) depth 60 fits 20000
 
 printed_send : IsSend Printed.the_row
 printed_send = search (value.crosses, crosses, sendable) depth 60 fits 20000
@@ -85,7 +85,7 @@ secondaries_send = search (content_send, key_send, key_sync, Deed-send, KeyRef-s
 table_row_send : IsSend Object.the_row
 table_row_send = search (
   content_send,
-  origin_send,
+  birth_send,
   object.the_send,
   node.the_send,
   worker.the_send,
@@ -103,7 +103,7 @@ node_send : IsSend Node.the_field.row
 node_send = search (content_send, secondaries_send, value.crosses, crosses, sendable) depth 60 fits 20000
 
 worker_send : IsSend Worker.the_field.row
-worker_send = search (content_send, origin_send, table_send, value.crosses, crosses, sendable) depth 60 fits 20000
+worker_send = search (content_send, birth_send, table_send, value.crosses, crosses, sendable) depth 60 fits 20000
 
 objects_send : IsSend (Seq.the_row ObjectId.the_row)
 objects_send = search (object.the_send, crosses, sendable) depth 60 fits 20000
@@ -114,7 +114,7 @@ nodes_send = search (node.the_send, crosses, sendable) depth 60 fits 20000
 message_send : IsSend Message.the_field.row
 message_send = search (
   content_send,
-  origin_send,
+  birth_send,
   objects_send,
   nodes_send,
   attempt.the_send,
@@ -126,16 +126,16 @@ message_send = search (
   sendable,
 ) depth 60 fits 20000
 
-letter_send : IsSend Letter.the_field.row
-letter_send = search (message_send, party.the_field_send, crosses, sendable) depth 60 fits 20000
+envelope_send : IsSend Envelope.the_field.row
+envelope_send = search (message_send, endpoint.the_field_send, crosses, sendable) depth 60 fits 20000
 
-whole_send : IsSend Whole.the_field.row
-whole_send = search (node_send, worker_send, letter_send, crosses, sendable) depth 60 fits 20000
+cluster_send : IsSend ClusterState.the_field.row
+cluster_send = search (node_send, worker_send, envelope_send, crosses, sendable) depth 60 fits 20000
 
 entry_send : IsSend Entry.the_field.row
 entry_send = search (
   content_send,
-  origin_send,
+  birth_send,
   printed_send,
   object.the_send,
   node.the_send,
@@ -154,7 +154,7 @@ outs_send = search (crosses, sendable) depth 60 fits 20000
 
 module _ (S : RattleType) (n : script_name.Ghosts S.Denot) (s : IsSend S) where
   core_send : IsSend (Core.the_row S n)
-  core_send = search (whole_send, entry_send, phantom.the_field_send, crosses, sendable) depth 60 fits 20000
+  core_send = search (cluster_send, entry_send, phantom.the_field_send, crosses, sendable) depth 60 fits 20000
 
   board_send : IsSend (Board.the_row S n)
   board_send = search (core_send, crosses, sendable) depth 60 fits 20000

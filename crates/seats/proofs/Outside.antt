@@ -16,10 +16,10 @@ use Rattle.log_entries.specs.declared.refusal.Refusal.TheVariants as refusals
 use Rattle.protocol.specs.Answers.{Answer, answer, decided, given_out, logged, takes}
 use Rattle.protocol.specs.Answers as answers
 use Rattle.protocol.specs.Events.{happens}
-use Rattle.protocol.specs.Jobs.{Handed}
+use Rattle.protocol.specs.Jobs.{CommitInput}
 use Rattle.protocol.specs.Refusals.{is_within_limits, refusal}
 use Rattle.protocol.specs.Settling.{next}
-use Rattle.protocol.specs.Whole.{Whole}
+use Rattle.protocol.specs.Cluster.{ClusterState}
 use Rattle.protocol_owed.proofs.Counting.{happens-counted, no_event}
 use Rattle.run_paths.specs.of_protocol_board.Cores.{RunState, Reply, Refuses, Answers, Follows}
 use Rattle.seats.specs.Ends.{first_events}
@@ -38,13 +38,13 @@ no_events (x ∷ es) h = no_events es h
 one_more : (log : List Entry) (e : Event) (seat : ℕ) (es : List Entry) → has_event es ≡ false → events (log ++ In e seat ∷ es) ≡ events log ++ e ∷ []
 one_more log e seat es h = flat_map-append came_in log (In e seat ∷ es) ∙ ap (λ xs. events log ++ (e ∷ xs)) (no_events es h)
 
-limited_more : (log : List Entry) (c : Whole) (e : Event) (seat : ℕ) (handed : Handed) (b : Bool) →
+limited_more : (log : List Entry) (c : ClusterState) (e : Event) (seat : ℕ) (handed : CommitInput) (b : Bool) →
     events (log ++ logged e seat (if b then takes (happens c e handed) (given_out c e) else answers.Refuses Limit)) ≡ events log ++ e ∷ []
 limited_more log c e seat handed true =
     one_more log e seat (happens c e handed).out.entries (no_event (happens c e handed).out.entries (happens-counted c e handed).quiet)
 limited_more log c e seat handed false = one_more log e seat (Refused Limit ∷ []) refl
 
-decided_more : (log : List Entry) (c : Whole) (e : Event) (seat : ℕ) (handed : Handed) (o : Option Refusal) →
+decided_more : (log : List Entry) (c : ClusterState) (e : Event) (seat : ℕ) (handed : CommitInput) (o : Option Refusal) →
     events (log ++ logged e seat (decided c e handed o)) ≡ events log ++ e ∷ []
 decided_more log c e seat handed None = limited_more log c e seat handed (is_within_limits (happens c e handed).whole)
 decided_more log c e seat handed (Some code) = one_more log e seat (Refused code ∷ []) refl
@@ -70,7 +70,7 @@ first_refused is_open es log None h = tt
 first_refused is_open es log (Some x) h = h
 
 -- where it is logged
-has_more : (is_open : Bool) (es es_now : List Event) (before : RunState) (log : List Entry) (e : Event) (seat : ℕ) (handed : Handed) →
+has_more : (is_open : Bool) (es es_now : List Event) (before : RunState) (log : List Entry) (e : Event) (seat : ℕ) (handed : CommitInput) →
     IsMore is_open es es_now e → log ≡ before.log ++ logged e seat (answer before.whole e handed) → HasNoOther is_open es before.log →
     HasNoOther is_open es_now log
 has_more is_open es es_now before log e seat handed more is h =

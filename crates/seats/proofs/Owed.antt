@@ -13,14 +13,14 @@ use Rattle.event_log.specs.Entries.{Refusal, Pinned, NoCopy, NoWorker, NotReady,
 use Rattle.event_log.specs.Events.{accepted_events, claims, claim_in, refused_next}
 use Rattle.event_log.specs.Legal.{opening}
 use Rattle.event_log.proofs.EventLaws.{accepted-refused, claims-event}
-use Rattle.protocol.specs.Jobs.{Handed, Job}
-use Rattle.protocol.specs.Whole.{Whole}
+use Rattle.protocol.specs.Jobs.{CommitInput, Job}
+use Rattle.protocol.specs.Cluster.{ClusterState}
 use Rattle.protocol.specs.Events.{happens}
 use Rattle.protocol.specs.Refusals.{is_within_limits, refusal}
 use Rattle.protocol.specs.Answers.{answer, decided, given_out, logged, takes}
 use Rattle.protocol.specs.Answers as answers
 use Rattle.protocol_owed.proofs.Counting.{are_parts, happens-counted, is_part, no_event, not_refused}
-use Rattle.protocol_owed.proofs.Letters.{among-append_cases, among-nothing}
+use Rattle.protocol_owed.proofs.Envelopes.{among-append_cases, among-nothing}
 use Rattle.run_paths.specs.of_protocol_board.Cores.{RunState, GivesJob, GivesThat, Reply, Accepts, Refuses, Tells, Answers, Follows}
 use Rattle.run_paths.specs.Handing.{AllHandedIn, is_handed_in, takes_done}
 use Rattle.seats.specs.Counted.{ClaimsGaveJobs}
@@ -141,7 +141,7 @@ no_claim : (log : List Entry) (e : Event) (seat : ℕ) (es : List Entry) → are
 no_claim log e seat es quiet none =
     claims-event log e seat es (no_event es quiet) (not_refused es quiet) ∙ ap (λ ws. claims log ++ ws) none ∙ append-nil (claims log)
 
-claim_out : (out : List JobOut) (log : List Entry) (c : Whole) (w seat : ℕ) (handed : Handed) (told : Reply) (es : List Entry) → are_parts es ≡ true →
+claim_out : (out : List JobOut) (log : List Entry) (c : ClusterState) (w seat : ℕ) (handed : CommitInput) (told : Reply) (es : List Entry) → are_parts es ≡ true →
     length (claims log) ≡ length c.jobs → refusal c (Claim w) handed ≡ None → GivesThat (given_out c (Claim w)) told → AreOut out log None →
     AreOut (out_behind (Claim w) told out) (log ++ In (Claim w) seat ∷ es) None
 claim_out out log c w seat handed told es quiet same r tells h =
@@ -161,7 +161,7 @@ other_out out log e seat told es quiet is none same h =
     subst (λ t. AreOut (out_behind e t out) (log ++ In e seat ∷ es) None) (sym is)
     (subst (λ o. AreOut o (log ++ In e seat ∷ es) None) (sym same) (still_out out log e seat es (no_claim log e seat es quiet none) h))
 
-taken_out : (out : List JobOut) (log : List Entry) (c : Whole) (e : Event) (seat : ℕ) (handed : Handed) (told : Reply) (es : List Entry) → are_parts es ≡ true →
+taken_out : (out : List JobOut) (log : List Entry) (c : ClusterState) (e : Event) (seat : ℕ) (handed : CommitInput) (told : Reply) (es : List Entry) → are_parts es ≡ true →
     length (claims log) ≡ length c.jobs → refusal c e handed ≡ None → GivesThat (given_out c e) told → AreOut out log None →
     AreOut (out_behind e told out) (log ++ In e seat ∷ es) None
 taken_out out log c (Claim w) seat handed told es quiet same r tells h = claim_out out log c w seat handed told es quiet same r tells h
@@ -268,16 +268,16 @@ refused_within log e seat code h = other_within log e seat code refl h
 
 -- ---- behind an event with its answer
 
-abbrev KeptBehind : List JobOut → List Entry → Whole → Event → ℕ → answers.Answer → Reply → Type 0
+abbrev KeptBehind : List JobOut → List Entry → ClusterState → Event → ℕ → answers.Answer → Reply → Type 0
 KeptBehind out log c e seat a told = IsKept (out_behind e told out) (log ++ logged e seat a) (given_up_by told None)
 
-refused_kept : (out : List JobOut) (log : List Entry) (c : Whole) (e : Event) (seat : ℕ) (code : Refusal) (told : Reply) → Tells (answers.Refuses code) told →
+refused_kept : (out : List JobOut) (log : List Entry) (c : ClusterState) (e : Event) (seat : ℕ) (code : Refusal) (told : Reply) → Tells (answers.Refuses code) told →
     IsKept out log None → KeptBehind out log c e seat (answers.Refuses code) told
 refused_kept out log c e seat code told tells h =
     subst (λ t. KeptBehind out log c e seat (answers.Refuses code) t) (sym tells)
     (record { jobs = refused_out out log e seat code h.jobs; within = refused_within log e seat code h.within })
 
-taken_kept : (out : List JobOut) (log : List Entry) (c : Whole) (e : Event) (seat : ℕ) (handed : Handed) (told : Reply) →
+taken_kept : (out : List JobOut) (log : List Entry) (c : ClusterState) (e : Event) (seat : ℕ) (handed : CommitInput) (told : Reply) →
     length (claims log) ≡ length c.jobs → refusal c e handed ≡ None → GivesThat (given_out c e) told → IsKept out log None →
     KeptBehind out log c e seat (takes (happens c e handed) (given_out c e)) told
 taken_kept out log c e seat handed told same r tells h =
@@ -289,14 +289,14 @@ taken_kept out log c e seat handed told same r tells h =
       within = taken_within log e seat es quiet h.within;
     })
 
-limited_kept : (out : List JobOut) (log : List Entry) (c : Whole) (e : Event) (seat : ℕ) (handed : Handed) (told : Reply) →
+limited_kept : (out : List JobOut) (log : List Entry) (c : ClusterState) (e : Event) (seat : ℕ) (handed : CommitInput) (told : Reply) →
     length (claims log) ≡ length c.jobs → refusal c e handed ≡ None → IsKept out log None → (b : Bool) →
     Tells (if b then takes (happens c e handed) (given_out c e) else answers.Refuses Limit) told →
     KeptBehind out log c e seat (if b then takes (happens c e handed) (given_out c e) else answers.Refuses Limit) told
 limited_kept out log c e seat handed told same r h true tells = taken_kept out log c e seat handed told same r tells h
 limited_kept out log c e seat handed told same r h false tells = refused_kept out log c e seat Limit told tells h
 
-decided_kept : (out : List JobOut) (log : List Entry) (c : Whole) (e : Event) (seat : ℕ) (handed : Handed) (told : Reply) →
+decided_kept : (out : List JobOut) (log : List Entry) (c : ClusterState) (e : Event) (seat : ℕ) (handed : CommitInput) (told : Reply) →
     length (claims log) ≡ length c.jobs → IsKept out log None → (o : Option Refusal) → refusal c e handed ≡ o → Tells (decided c e handed o) told →
     KeptBehind out log c e seat (decided c e handed o) told
 decided_kept out log c e seat handed told same h None r tells =

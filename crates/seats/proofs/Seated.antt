@@ -8,9 +8,9 @@ use Rattle.event_log.specs.Legal.{has_event, opening}
 use Rattle.protocol.specs.Answers.{answer, decided, given_out, logged, takes}
 use Rattle.protocol.specs.Answers as answers
 use Rattle.protocol.specs.Events.{happens}
-use Rattle.protocol.specs.Jobs.{Handed}
+use Rattle.protocol.specs.Jobs.{CommitInput}
 use Rattle.protocol.specs.Refusals.{is_within_limits, refusal}
-use Rattle.protocol.specs.Whole.{Whole}
+use Rattle.protocol.specs.Cluster.{ClusterState}
 use Rattle.protocol_owed.proofs.Counting.{happens-counted, no_event}
 use Rattle.run_paths.specs.of_protocol_board.Cores.{RunState, Reply, Answers, Follows}
 use Rattle.seat_books.specs.Seats.{IsSeat}
@@ -43,13 +43,13 @@ one_from : (n : ℕ) (e : Event) (seat : ℕ) (es : List Entry) → IsSeat n sea
 one_from n e seat es h none zero f from at = subst (IsSeat n) (ap seat_in at) h
 one_from n e seat es h none (suc k) f from at = none_from n es none k f from at
 
-limited : (n : ℕ) (c : Whole) (e : Event) (seat : ℕ) (handed : Handed) → IsSeat n seat → (b : Bool) →
+limited : (n : ℕ) (c : ClusterState) (e : Event) (seat : ℕ) (handed : CommitInput) → IsSeat n seat → (b : Bool) →
     AreFrom n (logged e seat (if b then takes (happens c e handed) (given_out c e) else answers.Refuses Limit))
 limited n c e seat handed h true =
     one_from n e seat (happens c e handed).out.entries h (no_event (happens c e handed).out.entries (happens-counted c e handed).quiet)
 limited n c e seat handed h false = one_from n e seat (Refused Limit ∷ []) h refl
 
-by_refusal : (n : ℕ) (c : Whole) (e : Event) (seat : ℕ) (handed : Handed) → IsSeat n seat → (o : Option Refusal) → AreFrom n (logged e seat (decided c e handed o))
+by_refusal : (n : ℕ) (c : ClusterState) (e : Event) (seat : ℕ) (handed : CommitInput) → IsSeat n seat → (o : Option Refusal) → AreFrom n (logged e seat (decided c e handed o))
 by_refusal n c e seat handed h None = limited n c e seat handed h (is_within_limits (happens c e handed).whole)
 by_refusal n c e seat handed h (Some code) = one_from n e seat (Refused code ∷ []) h refl
 

@@ -9,7 +9,7 @@ use crate::done::Done;
 use crate::runs::run_on;
 use crate::script_name::ScriptName;
 use evaluation::{Compiled, Frame, NoMemory, PieceError};
-use held::{Answers, Births, JobParts, Origin, Prints};
+use held::{Answers, Births, JobParts, Prints, SharedBirth};
 use ids::{AttemptId, ObjectId};
 use script_laws::law::checked_scripts_are_safe;
 use std::alloc::Global;
@@ -87,7 +87,7 @@ impl<S: ScriptName> Job<S> {
     }
 
     /// The attempt's task.
-    pub fn spec(&self) -> &Origin
+    pub fn spec(&self) -> &SharedBirth
         ensures { result.now ≡ self.now.spec }
     {
         &self.parts.spec

@@ -10,7 +10,7 @@ ghost use Rattle.segment.specs.Frames.{Fits, WaitsAfter};
 ghost use Rattle.segment.specs.Pieces.{done_of};
 
 use evaluation::{Compiled, Frame, Piece, PieceError, go_on, run_piece};
-use held::{JobParts, Origin};
+use held::{JobParts, SharedBirth};
 use std::alloc::{AllocError, Global};
 use task_spec::Birth;
 
@@ -45,14 +45,14 @@ fn run_again(alloc: Global, script: &Compiled, job: &JobParts) -> Result<Piece, 
 }
 
 /// Tells that no value of a task has an outcome in it, and does nothing.
-fn attest_spec(spec: &Origin)
+fn attest_spec(spec: &SharedBirth)
     ensures { IsTaskBirth spec.now }
 {
     let _ = &spec.inner;
 }
 
 /// How many results a job's task has beside the first.
-fn others(spec: &Origin) -> u8
+fn others(spec: &SharedBirth) -> u8
     ensures { result ≡ others_of spec.now }
 {
     match &*spec.inner {

@@ -5,7 +5,7 @@ use Rattle.protocol.specs.Refusals.{job_out}
 use Rattle.protocol.specs.Sets.{has}
 use Rattle.protocol.specs.Settling.{first_false, first_job, first_ready, or_number}
 use Rattle.protocol.specs.Tables.{Worker}
-use Rattle.protocol.specs.Whole.{Whole}
+use Rattle.protocol.specs.Cluster.{ClusterState}
 use Rattle.settling.specs.Turns.{is_next}
 
 some_is : {X : Type 0} (x y : X) → Some x ≡ Some y → x ≡ y
@@ -62,17 +62,17 @@ no_job_further but i xs h = ap (first_job but (i + 1)) (none_past xs i h)
 
 -- ---- ready workers
 
-ready_step : (c : Whole) (but : List ℕ) (i : ℕ) (xs : List Worker) (x : Worker) → slice_get xs i ≡ Some x
+ready_step : (c : ClusterState) (but : List ℕ) (i : ℕ) (xs : List Worker) (x : Worker) → slice_get xs i ≡ Some x
     → first_ready c but (i + 1) (drop i xs) ≡ (if is_next c but (i + 1) x then Some (i + 1) else first_ready c but (i + 1 + 1) (drop (i + 1) xs))
 ready_step c but i xs x e = ap (first_ready c but (i + 1)) (item_next xs i x e)
 
-pub ready_there : (c : Whole) (but : List ℕ) (i : ℕ) (xs : List Worker) (x : Worker) → slice_get xs i ≡ Some x → is_next c but (i + 1) x ≡ true
+pub ready_there : (c : ClusterState) (but : List ℕ) (i : ℕ) (xs : List Worker) (x : Worker) → slice_get xs i ≡ Some x → is_next c but (i + 1) x ≡ true
     → first_ready c but (i + 1) (drop i xs) ≡ Some (i + 1)
 ready_there c but i xs x e f = ready_step c but i xs x e ∙ ap (λ b. if b then Some (i + 1) else first_ready c but (i + 1 + 1) (drop (i + 1) xs)) f
 
-pub none_ready_there : (c : Whole) (but : List ℕ) (i : ℕ) (xs : List Worker) (x : Worker) → slice_get xs i ≡ Some x → is_next c but (i + 1) x ≡ false
+pub none_ready_there : (c : ClusterState) (but : List ℕ) (i : ℕ) (xs : List Worker) (x : Worker) → slice_get xs i ≡ Some x → is_next c but (i + 1) x ≡ false
     → first_ready c but (i + 1) (drop i xs) ≡ first_ready c but (i + 1 + 1) (drop (i + 1) xs)
 none_ready_there c but i xs x e f = ready_step c but i xs x e ∙ ap (λ b. if b then Some (i + 1) else first_ready c but (i + 1 + 1) (drop (i + 1) xs)) f
 
-pub none_ready_further : (c : Whole) (but : List ℕ) (i : ℕ) (xs : List Worker) → length xs ≤ i → first_ready c but (i + 1) (drop i xs) ≡ None
+pub none_ready_further : (c : ClusterState) (but : List ℕ) (i : ℕ) (xs : List Worker) → length xs ≤ i → first_ready c but (i + 1) (drop i xs) ≡ None
 none_ready_further c but i xs h = ap (first_ready c but (i + 1)) (none_past xs i h)

@@ -4,13 +4,13 @@ ghost use Rattle.std.specs.Prelude.{◌≡◌, IfSome, IfNone, true, false};
 ghost use Rattle.protocol.specs.Refusals.{has_slot};
 ghost use Rattle.protocol.specs.Sets.{has};
 ghost use Rattle.protocol.specs.Settling.{first_ready};
-ghost use Rattle.protocol.specs.Whole.{node_at};
+ghost use Rattle.protocol.specs.Cluster.{node_at};
 ghost use Rattle.settling.specs.Turns.{is_next};
 
 use crate::commits::has_number;
 use ids::{NodeId, WorkerId};
 use number_lists::item_at_number;
-use protocol_data::{Whole, Worker};
+use protocol_data::{ClusterState, Worker};
 use refusals::is_ready_run;
 use sequence::Seq;
 
@@ -28,7 +28,7 @@ fn found_in(workers: &Seq<WorkerId>, number: u64) -> Option<WorkerId>
 }
 
 /// The worker of that number, if it has a slot of the node.
-fn holder(whole: &Whole, number: u64, node: NodeId) -> Option<WorkerId>
+fn holder(whole: &ClusterState, number: u64, node: NodeId) -> Option<WorkerId>
     ensures found { IfSome result (λ w. (w ≡ number) × (has_slot number (node_at whole.now node) ≡ true)) }
     ensures none { IfNone result (has_slot number (node_at whole.now node) ≡ false) }
 {
@@ -39,7 +39,12 @@ fn holder(whole: &Whole, number: u64, node: NodeId) -> Option<WorkerId>
 }
 
 /// The worker of that number, if it is ready and isn't left out.
-fn ready_of(whole: &Whole, worker: &Worker, but: &Seq<WorkerId>, number: u64) -> Option<WorkerId>
+fn ready_of(
+    whole: &ClusterState,
+    worker: &Worker,
+    but: &Seq<WorkerId>,
+    number: u64,
+) -> Option<WorkerId>
     ensures found { IfSome result (λ w. (w ≡ number) × (is_next whole.now but.now number worker.now ≡ true)) }
     ensures none { IfNone result (is_next whole.now but.now number worker.now ≡ false) }
 {
@@ -57,7 +62,7 @@ fn ready_of(whole: &Whole, worker: &Worker, but: &Seq<WorkerId>, number: u64) ->
 
 /// The least worker that is ready, but for these.
 #[tactic(auto, using(crate::proofs::Places::none_ready_further))]
-pub fn first_ready(whole: &Whole, but: &Seq<WorkerId>) -> Option<WorkerId>
+pub fn first_ready(whole: &ClusterState, but: &Seq<WorkerId>) -> Option<WorkerId>
     ensures { result ≡ first_ready whole.now but.now 1 whole.now.workers }
 {
     for place in 0..whole.workers.len() {

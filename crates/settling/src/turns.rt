@@ -9,12 +9,12 @@ use crate::commits::first_job;
 use crate::messages::first_undelivered;
 use ids::WorkerId;
 use log_entries::Event;
-use protocol_data::Whole;
+use protocol_data::ClusterState;
 use sequence::Seq;
 
 /// The next event: the least message from the place on that was never delivered is delivered; else the least live worker whose job is out
 /// commits it; else the least worker that is ready claims. The workers of the list are left out of the last two. No event: nothing is left to do.
-pub fn next_from(whole: &Whole, but: &Seq<WorkerId>, from: usize) -> Option<Event>
+pub fn next_from(whole: &ClusterState, but: &Seq<WorkerId>, from: usize) -> Option<Event>
     ensures { result ≡ next_from from whole.now but.now }
 {
     if let Some(message) = first_undelivered(&whole.delivered, from) {
@@ -30,7 +30,7 @@ pub fn next_from(whole: &Whole, but: &Seq<WorkerId>, from: usize) -> Option<Even
 }
 
 /// The next event, as `next_from` has it with all messages looked at.
-pub fn next(whole: &Whole, but: &Seq<WorkerId>) -> Option<Event>
+pub fn next(whole: &ClusterState, but: &Seq<WorkerId>) -> Option<Event>
     ensures { result ≡ next whole.now but.now }
 {
     next_from(whole, but, 0)

@@ -13,7 +13,7 @@ use Rattle.numbered.specs.of_protocol.Places.{answers_settled, answers_settled_b
 use Rattle.numbered.specs.of_event_log.Entries.{Faulted}
 use Rattle.numbered.specs.of_protocol.Runs.{gives_slot_back}
 use Rattle.numbered.specs.of_protocol.Sets.{rest_of}
-use Rattle.numbered.specs.of_protocol.Steps.{changes, Here, logs, own_id, own_object, with_phase}
+use Rattle.numbered.specs.of_protocol.Steps.{changes, WorkerContext, logs, own_id, own_object, with_phase}
 use Rattle.numbered.specs.of_protocol.Tables.{HasFaulted, is_nowhere, Object, with_content}
 use Rattle.smallest_steps.proofs.Known.{own_here, somewhere}
 use Rattle.smallest_steps.proofs.Needing as N
@@ -25,19 +25,19 @@ abbrev pub IsHad : Object → Type 0
 IsHad x = (is_some x.settled ≡ true) × (is_nowhere x ≡ false)
 
 -- the own object of that serial, if it is there, has its content
-abbrev pub HasContent : ℕ → Here → Type 0
+abbrev pub HasContent : ℕ → WorkerContext → Type 0
 HasContent k h = (x : Object) → own_object h k ≡ Some x → IsHad x
 
 module _ (k : ℕ) where
   -- a change of any object that leaves what it has
-  changed_has : (h : Here) (o : Id) (f : Object → Object) → ((x : Object) → IsHad x → IsHad (f x)) → HasContent k h → HasContent k (changes h o f)
+  changed_has : (h : WorkerContext) (o : Id) (f : Object → Object) → ((x : Object) → IsHad x → IsHad (f x)) → HasContent k h → HasContent k (changes h o f)
   changed_has h o f leaves has y there = elim (changed_cases h.worker.objects o.serial f k y there) [
     | inl (e, q) ↦ subst IsHad q.2 (leaves q.0 (has q.0 q.1))
     | inr (e, at) ↦ has y at
   ]
 
   -- a change of another one
-  other_has : (h : Here) (o : Id) (f : Object → Object) → o.serial ≢ k → HasContent k h → HasContent k (changes h o f)
+  other_has : (h : WorkerContext) (o : Id) (f : Object → Object) → o.serial ≢ k → HasContent k h → HasContent k (changes h o f)
   other_has h o f other has y there = elim (changed_cases h.worker.objects o.serial f k y there) [
     | inl (e, q) ↦ absurd (other (sym e))
     | inr (e, at) ↦ has y at
@@ -69,7 +69,7 @@ module _ (k : ℕ) where
   }
 
 -- one that has its content is answered, and the others keep theirs
-pub others_stay : (h : Here) (k i : ℕ) → k ≢ i → HasContent k h → HasContent i h → HasContent i (answers_settled h (own_id h k))
+pub others_stay : (h : WorkerContext) (k i : ℕ) → k ≢ i → HasContent k h → HasContent i h → HasContent i (answers_settled h (own_id h k))
 others_stay h k i other has stays = by_object (own_object h k) refl
   where
     by_object : (x : Option Object) → own_object h k ≡ x → HasContent i (answers_settled h (own_id h k))
@@ -83,7 +83,7 @@ now_had : (number n : ℕ) (r : EndedResult) (x : Object) → IsHad (with_conten
 now_had number n r x = (refl, somewhere n r.kept)
 
 -- what is settled has its content
-now_has : (h : Here) (o : Id) (number n : ℕ) (r : EndedResult) → HasContent o.serial (changes h o (with_content number n r.ids r.kept))
+now_has : (h : WorkerContext) (o : Id) (number n : ℕ) (r : EndedResult) → HasContent o.serial (changes h o (with_content number n r.ids r.kept))
 now_has h o number n r y there = elim (changed_cases h.worker.objects o.serial (with_content number n r.ids r.kept) o.serial y there) [
   | inl (e, q) ↦ subst IsHad q.2 (now_had number n r q.0)
   | inr (e, at) ↦ absurd (e refl)
@@ -92,7 +92,7 @@ now_has h o number n r y there = elim (changed_cases h.worker.objects o.serial (
 above : (m j : ℕ) → m ≤ j → (m == j) ≡ false → m + 1 ≤ j
 above m j low other = grind (arith, nat_tests)
 
-settles_has : (count : ℕ) (h : Here) (o : Id) (number n : ℕ) (rs : List EndedResult) (i : ℕ) →
+settles_has : (count : ℕ) (h : WorkerContext) (o : Id) (number n : ℕ) (rs : List EndedResult) (i : ℕ) →
     HasContent i h ⊎ ((o.serial ≤ i) × (i < o.serial + count)) → HasContent i (settles h o number n count rs)
 settles_has zero h o number n rs i (inl has) = has
 settles_has zero h o number n rs i (inr (low, high)) = absurd (omega (arith, low, high))
@@ -109,6 +109,6 @@ settles_has (suc count) h o number n rs i p =
         (now_has h o number n (first_result rs))))
         (λ _ e. inr (above o.serial i low e, omega (arith, high))) refl
 
-pub settled_rows : (count : ℕ) (h : Here) (o : Id) (number n : ℕ) (rs : List EndedResult) (i : ℕ) → o.serial ≤ i → i < o.serial + count →
+pub settled_rows : (count : ℕ) (h : WorkerContext) (o : Id) (number n : ℕ) (rs : List EndedResult) (i : ℕ) → o.serial ≤ i → i < o.serial + count →
     HasContent i (settles h o number n count rs)
 settled_rows count h o number n rs i low high = settles_has count h o number n rs i (inr (low, high))

@@ -13,10 +13,10 @@ use Rattle.numbered.proofs.Lists.{counted_repeated_at, joined_cases}
 use Rattle.numbered.proofs.Places.{changed_is, counted, item_is, placed_changed}
 use Rattle.numbered.specs.of_protocol.Numbered.{changed_at, item_at}
 use Rattle.numbered.specs.of_protocol.Sets.{is_empty, repeated}
-use Rattle.numbered.specs.of_protocol.Steps.{changes, each_from, Here, is_own, object_at, own_id, own_object, with_run, with_task_of}
+use Rattle.numbered.specs.of_protocol.Steps.{changes, each_from, WorkerContext, is_own, object_at, own_id, own_object, with_run, with_task_of}
 use Rattle.numbered.specs.of_protocol.Tables.{AskedAt, AtRest, Beside, ByTask, Fetching, has_content, HasEnded, HasFaulted, is_nowhere, is_pending_task, is_same_id}
 use Rattle.numbered.specs.of_protocol.Tables.{is_waiting_for, is_whole, knows_dead, needed_by, new_object, new_task, Object, object_needed, Out, OwnTask, Phase, places_for}
-use Rattle.numbered.specs.of_protocol.Tables.{Progress, Ready, Run, RunsOn, task_in, task_of, Waits, with_dead_holder, with_holder, with_task, Worker}
+use Rattle.numbered.specs.of_protocol.Tables.{Progress, Ready, Execution, RunsOn, task_in, task_of, Waits, with_dead_holder, with_holder, with_task, Worker}
 use Rattle.numbered.specs.of_protocol.Runs.{hears_by, with_fetching, with_fetching_at, with_fetching_by}
 use Rattle.numbered.specs.of_protocol.Asking.{if_asked, stands_at}
 use Rattle.numbered.specs.of_protocol.Holders.{adds_holder, awaits_hold_by, holding, holds_id, holds_ids, sends_hold}
@@ -42,17 +42,17 @@ module _ {X : Type 0} where
       let f : ◌≡◌ {A = ℕ} (length xs + 1) (suc (length xs)) = omega arith in
       ap (item_at (xs ++ x ∷ [])) f ∙ slice_get-last xs x (length xs) refl
 
-counted_tasks : (k : ℕ) (xs : List Object) (n m : ℕ) (f : Object → Object) → ((y : Object) → (f y).maker ≡ y.maker) →
+counted_tasks : (k : ℕ) (xs : List Object) (n m : ℕ) (f : Object → Object) → ((y : Object) → (f y).source ≡ y.source) →
     task_of (item_of k (changed k xs n f) m) ≡ task_of (item_of k xs m)
 counted_tasks k [] n m f keeps = refl
 counted_tasks k (x ∷ xs) n m f keeps =
     at_test (λ b. task_of (if b then Some (if k == n then f x else x) else item_of (k + 1) (changed (k + 1) xs n f) m) ≡ task_of
     (if b then Some x else item_of (k + 1) xs m)) (k == m)
-    (λ _. at_test (λ b. task_in (if b then f x else x).maker ≡ task_in x.maker) (k == n) (λ _. ap task_in (keeps x)) (λ _. refl))
+    (λ _. at_test (λ b. task_in (if b then f x else x).source ≡ task_in x.source) (k == n) (λ _. ap task_in (keeps x)) (λ _. refl))
     (λ _. counted_tasks (k + 1) xs n m f keeps)
 
 -- what makes objects stays, where a change leaves it
-pub same_tasks : (xs : List Object) (n m : ℕ) (f : Object → Object) → ((y : Object) → (f y).maker ≡ y.maker) →
+pub same_tasks : (xs : List Object) (n m : ℕ) (f : Object → Object) → ((y : Object) → (f y).source ≡ y.source) →
     task_of (item_at (changed_at xs n f) m) ≡ task_of (item_at xs m)
 same_tasks xs n m f keeps =
     ap task_of (sym (item_is (changed_at xs n f) m)) ∙ ap (λ ys. task_of (item_of 1 ys m)) (sym (changed_is xs n f)) ∙ counted_tasks 1 xs n m f keeps ∙
@@ -61,33 +61,33 @@ same_tasks xs n m f keeps =
 -- ---- own objects
 
 -- only an own object has a task here
-pub own_at : (h : Here) (o : Id) (task : OwnTask) → task_of (object_at h o) ≡ Some task → o.owner ≡ h.me
+pub own_at : (h : WorkerContext) (o : Id) (task : OwnTask) → task_of (object_at h o) ≡ Some task → o.owner ≡ h.me
 own_at h o task e =
     at_test (λ b. is_own h o ≡ b → task_of (if b then own_object h o.serial else None) ≡ Some task → o.owner ≡ h.me) (is_own h o)
     (λ _ f _. eqb-true o.owner h.me f) (λ _ f g. absurd (cc)) refl e
 
 -- the object at an own id
-pub own_there : (h : Here) (k : ℕ) → task_of (object_at h (own_id h k)) ≡ task_of (own_object h k)
+pub own_there : (h : WorkerContext) (k : ℕ) → task_of (object_at h (own_id h k)) ≡ task_of (own_object h k)
 own_there h k = ap (λ b. task_of (if b then own_object h k else None)) (equal h.me)
   where
     equal : (n : ℕ) → (n == n) ≡ true
     equal n = grind (arith, nat_tests)
 
-pub own_here : (h : Here) (k : ℕ) → object_at h (own_id h k) ≡ own_object h k
+pub own_here : (h : WorkerContext) (k : ℕ) → object_at h (own_id h k) ≡ own_object h k
 own_here h k = ap (λ b. if b then own_object h k else None) (equal h.me)
   where
     equal : (n : ℕ) → (n == n) ≡ true
     equal n = grind (arith, nat_tests)
 
 -- the object with its change
-pub object_now : (h : Here) (o : Id) (f : Object → Object) (x : Object) → object_at h o ≡ Some x → object_at (changes h o f) o ≡ Some (f x)
+pub object_now : (h : WorkerContext) (o : Id) (f : Object → Object) (x : Object) → object_at h o ≡ Some x → object_at (changes h o f) o ≡ Some (f x)
 object_now h o f x e =
     at_test (λ b. (if b then own_object h o.serial else None) ≡ Some x →
     (if b then item_at (changed_at h.worker.objects o.serial f) o.serial else None) ≡ Some (f x)) (is_own h o)
     (λ _ g. changed_here h.worker.objects o.serial f x g) (λ _ g. absurd (cc)) e
 
 -- an object whose task there is
-pub object_of : (h : Here) (o : Id) (task : OwnTask) → task_of (object_at h o) ≡ Some task → (x : Object) × (object_at h o ≡ Some x)
+pub object_of : (h : WorkerContext) (o : Id) (task : OwnTask) → task_of (object_at h o) ≡ Some task → (x : Object) × (object_at h o ≡ Some x)
 object_of h o task e = by_object (object_at h o) refl e
   where
     by_object : (x : Option Object) → object_at h o ≡ x → task_of x ≡ Some task → (y : Object) × (object_at h o ≡ Some y)
@@ -95,7 +95,7 @@ object_of h o task e = by_object (object_at h o) refl e
     by_object (Some y) f g = (y, f)
 
 -- the task that was put in place
-pub task_now : (h : Here) (o : Id) (old task : OwnTask) → task_of (object_at h o) ≡ Some old → task_of (object_at (with_task_of h o task) o) ≡ Some task
+pub task_now : (h : WorkerContext) (o : Id) (old task : OwnTask) → task_of (object_at h o) ≡ Some old → task_of (object_at (with_task_of h o task) o) ≡ Some task
 task_now h o old task e = let x = object_of h o old e in ap task_of (object_now h o (with_task task) x.0 x.1)
 
 -- what can be had has a place, or its owner keeps it
@@ -108,21 +108,21 @@ somewhere n None = refl
 somewhere n (Some c) = refl
 
 -- a Fetch that begins or ends changes nothing of who owns what
-pub fetching_foreign : (h : Here) (o : Id) (f : Option Fetching) → is_own h o ≡ false → is_own (with_fetching h f) o ≡ false
+pub fetching_foreign : (h : WorkerContext) (o : Id) (f : Option Fetching) → is_own h o ≡ false → is_own (with_fetching h f) o ≡ false
 fetching_foreign h o f e = by_run h.worker.run
   where
-    by_phase : (run : Run) (p : Phase) → is_own (with_fetching_at h run f p) o ≡ false
+    by_phase : (run : Execution) (p : Phase) → is_own (with_fetching_at h run f p) o ≡ false
     by_phase run (Waits y g) = e
     by_phase run Ready = e
     by_phase run (Out j) = e
     by_phase run (HasEnded c) = e
     by_phase run (HasFaulted g) = e
 
-    by_run : (r : Option Run) → is_own (with_fetching_by h f r) o ≡ false
+    by_run : (r : Option Execution) → is_own (with_fetching_by h f r) o ≡ false
     by_run None = e
     by_run (Some run) = by_phase run run.phase
 
-pub hears_by-node : (h : Here) (a : Attempt) (r : Option Run) → h.worker.node ≡ (hears_by h a r).worker.node
+pub hears_by-node : (h : WorkerContext) (a : Attempt) (r : Option Execution) → h.worker.node ≡ (hears_by h a r).worker.node
 hears_by-node h a None = refl
 hears_by-node h a (Some run) =
     at_test (λ b. h.worker.node ≡ (if b then with_run h (record run { is_acknowledged = true }) else h).worker.node)
@@ -151,7 +151,7 @@ asked_where t a task e = by_progress task.progress refl (and_right (task.number 
 
 -- a worker that waits has an attempt that does
 pub record IsWaiting (x : Worker) : Type 0 where
-  pub run : Run
+  pub run : Execution
   pub object : Id
   pub fetching : Option Fetching
   pub at : x.run ≡ Some run
@@ -160,14 +160,14 @@ pub record IsWaiting (x : Worker) : Type 0 where
 pub waiting : (x : Worker) (o : Id) → is_waiting_for x o ≡ true → IsWaiting x
 waiting x o e = by_run x.run refl e
   where
-    by_phase : (run : Run) → x.run ≡ Some run → (p : Phase) → run.phase ≡ p → is_same_id (object_needed p) o ≡ true → IsWaiting x
+    by_phase : (run : Execution) → x.run ≡ Some run → (p : Phase) → run.phase ≡ p → is_same_id (object_needed p) o ≡ true → IsWaiting x
     by_phase run f (Waits y g) q i = record { run = run; object = y; fetching = g; at = f; waits = q }
     by_phase run f Ready q i = absurd (cc)
     by_phase run f (Out j) q i = absurd (cc)
     by_phase run f (HasEnded c) q i = absurd (cc)
     by_phase run f (HasFaulted g) q i = absurd (cc)
 
-    by_run : (r : Option Run) → x.run ≡ r → is_same_id (needed_by r) o ≡ true → IsWaiting x
+    by_run : (r : Option Execution) → x.run ≡ r → is_same_id (needed_by r) o ≡ true → IsWaiting x
     by_run None f i = absurd (cc)
     by_run (Some run) f i = by_phase run f run.phase refl i
 
@@ -183,13 +183,13 @@ on_node m (AskedAt t n) e = absurd (cc)
 
 -- ---- births
 
-changed_one : (h : Here) (p o : Id) (f : Object → Object) → ((y : Object) → (f y).maker ≡ y.maker) →
+changed_one : (h : WorkerContext) (p o : Id) (f : Object → Object) → ((y : Object) → (f y).source ≡ y.source) →
     task_of (object_at (changes h p f) o) ≡ task_of (object_at h o)
 changed_one h p o f keeps =
     at_test (λ b. task_of (if b then item_at (changed_at h.worker.objects p.serial f) o.serial else None) ≡ task_of (if b then own_object h o.serial else None))
     (is_own h o) (λ _. same_tasks h.worker.objects p.serial o.serial f keeps) (λ _. refl)
 
-held_one : (h : Here) (e p o : Id) → task_of (object_at (holds_id h e p) o) ≡ task_of (object_at h o)
+held_one : (h : WorkerContext) (e p o : Id) → task_of (object_at (holds_id h e p) o) ≡ task_of (object_at h o)
 held_one h e p o =
     at_test (λ b. task_of (object_at (if b then adds_holder h e p else if knows_dead h.worker p.owner then h else sends_hold h e p) o) ≡ task_of
     (object_at h o)) (is_own h p)
@@ -200,19 +200,19 @@ held_one h e p o =
     (λ _. at_test (λ b. task_of (object_at (if b then h else sends_hold h e p) o) ≡ task_of (object_at h o)) (knows_dead h.worker p.owner) (λ _. refl)
     (λ _. by_run h.worker.run))
   where
-    by_run : (r : Option Run) → task_of (object_at (awaits_hold_by h (holding e p) r) o) ≡ task_of (object_at h o)
+    by_run : (r : Option Execution) → task_of (object_at (awaits_hold_by h (holding e p) r) o) ≡ task_of (object_at h o)
     by_run None = refl
     by_run (Some run) = refl
 
-pub held_task : (h : Here) (e o : Id) (ids : List Id) → task_of (object_at (holds_ids h e ids) o) ≡ task_of (object_at h o)
+pub held_task : (h : WorkerContext) (e o : Id) (ids : List Id) → task_of (object_at (holds_ids h e ids) o) ≡ task_of (object_at h o)
 held_task h e o [] = refl
 held_task h e o (p ∷ ids) = held_task (holds_id h e p) e o ids ∙ held_one h e p o
 
-each_held_from : (h : Here) (k n : ℕ) (ids : List Id) (o : Id) → task_of (object_at (each_from (λ g i. holds_ids g (own_id g i) ids) h k n) o) ≡ task_of (object_at h o)
+each_held_from : (h : WorkerContext) (k n : ℕ) (ids : List Id) (o : Id) → task_of (object_at (each_from (λ g i. holds_ids g (own_id g i) ids) h k n) o) ≡ task_of (object_at h o)
 each_held_from h k zero ids o = refl
 each_held_from h k (suc n) ids o = each_held_from (holds_ids h (own_id h k) ids) (k + 1) n ids o ∙ held_task h (own_id h k) o ids
 
-pub each_held_task : (h : Here) (e : Id) (task : OwnTask) (ids : List Id) (o : Id) → task_of (object_at (each_holds h e task ids) o) ≡ task_of (object_at h o)
+pub each_held_task : (h : WorkerContext) (e : Id) (task : OwnTask) (ids : List Id) (o : Id) → task_of (object_at (each_holds h e task ids) o) ≡ task_of (object_at h o)
 each_held_task h e task ids o = each_held_from h e.serial (results_of task.spec) ids o
 
 item_behind : {X : Type 0} (xs ys : List X) (x : X) → item_at (xs ++ x ∷ ys) (length xs + 1) ≡ Some x
@@ -224,7 +224,7 @@ item_behind {X} xs ys x =
     first [] = refl
     first (z ∷ zs) = first zs
 
-pub new_there : (h : Here) (a : Attempt) (spec : Birth) (others : ℕ) (ids : List Id) →
+pub new_there : (h : WorkerContext) (a : Attempt) (spec : Birth) (others : ℕ) (ids : List Id) →
     task_of (object_at (with_objects h (task_objects a (length h.worker.objects + 1) spec others ids)) (next_id_here h)) ≡ Some (new_task spec)
 new_there h a spec others ids =
     let serial : ℕ = length h.worker.objects + 1 in
@@ -264,7 +264,7 @@ module _ (xs : List Object) (a : Attempt) (serial : ℕ) (spec : Birth) (others 
   by_new k e z f true g = inr (ap task_of e, ap task_of f ∙ ap task_of (sym g))
   by_new k e z f false g =
       let same : beside ≡ z = (counted_repeated_at others beside ((1 + length xs) + 1) k z g).0 in
-      inl (ap task_of f ∙ ap (λ (y : Object). task_in y.maker) (sym same) ∙ ap task_of (sym e))
+      inl (ap task_of f ∙ ap (λ (y : Object). task_in y.source) (sym same) ∙ ap task_of (sym e))
 
   by_item : (k : ℕ) (o : Option Object) → item_at xs k ≡ o → (p : Option Object) → item_at (xs ++ ys) k ≡ p → Cases k
   by_item k (Some u) e p f = inl (ap task_of (still k u e) ∙ ap task_of (sym e))

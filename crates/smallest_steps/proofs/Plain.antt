@@ -6,8 +6,8 @@ use Rattle.numbered.specs.of_event_log.Entries.{Accepted, Attempt, Begun, Fault,
 use Rattle.numbered.specs.of_event_log.Words.{attempt}
 use Rattle.numbered.specs.of_protocol.Messages.{At, Message}
 use Rattle.numbered.specs.of_protocol.Stores.{looked_up, with_ended, with_primary, with_secondary}
-use Rattle.numbered.specs.of_protocol.Tables.{HasEnded, HasFaulted, is_wanted, may_try_again, Object, OwnTask, Run, settled_number, Worker}
-use Rattle.numbered.specs.of_protocol.Steps.{each_result, Here, logs, object_at, says, says_to_node, store_here, with_phase, with_run, with_store, with_task_of}
+use Rattle.numbered.specs.of_protocol.Tables.{HasEnded, HasFaulted, is_wanted, may_try_again, Object, OwnTask, Execution, settled_number, Worker}
+use Rattle.numbered.specs.of_protocol.Steps.{each_result, WorkerContext, logs, object_at, says, says_to_node, store_here, with_phase, with_run, with_store, with_task_of}
 use Rattle.numbered.specs.of_protocol.Steps.{with_worker}
 use Rattle.numbered.specs.of_protocol.Runs.{asks_for_slot, gives_slot_back}
 use Rattle.numbered.specs.of_protocol.Asking.{answers_faulted, breaks, resolves_used, resolves_used_by, rests}
@@ -20,24 +20,24 @@ use Rattle.smallest_steps.proofs.Smallest.{KeepsOver}
 use Rattle.smallest_steps.proofs.Moves as S
 
 -- it logs, it says, its tables are changed, its node's store is looked at or has one more copy, and the node is asked for a slot or has one back
-pub record KeepsPlainly (P : Here → Type 0) : Type 0 where
-  pub accepted : (h : Here) (a : Attempt) → P h → P (logs h (Accepted a))
-  pub begun : (h : Here) (a : Attempt) (w : ℕ) → P h → P (logs h (Begun a w))
-  pub got : (h : Here) (a : Attempt) (y : Id) (c : Outcome) → P h → P (logs h (Got a y c))
-  pub faulted : (h : Here) (a : Attempt) (y : Id) (f : Fault) → P h → P (logs h (Faulted a y f))
-  pub resolved : (h : Here) (o : Id) (f : Fault) → P h → P (logs h (Resolved o f))
-  pub released : (h : Here) (o : Id) → P h → P (logs h (Released o))
-  pub said : (h : Here) (w : ℕ) (m : Message) → P h → P (says h w m)
-  pub said_to_node : (h : Here) (n : ℕ) (m : Message) → P h → P (says_to_node h n m)
-  pub worker : (h : Here) (x : Worker) → x.node ≡ h.worker.node → x.is_live ≡ h.worker.is_live → P h → P (with_worker h x)
-  pub looked : (h : Here) (o : Id) (number : ℕ) → P h → P (with_store h (looked_up (store_here h) o number))
-  pub copied : (h : Here) (o : Id) (number : ℕ) (c : Outcome) → P h → P (with_store h (with_secondary (store_here h) o number c))
-  pub primary : (h : Here) (o : Id) (v : Value) → P h → P (with_store h (with_primary (store_here h) o 0 (Val v)))
-  pub ended : (h : Here) (o : Id) (number : ℕ) (c : Outcome) → P h → P (with_store h (with_ended (store_here h) o number c))
-  pub frees : (h : Here) → P h → P (gives_slot_back h)
-  pub asks : (h : Here) → P h → P (asks_for_slot h)
+pub record KeepsPlainly (P : WorkerContext → Type 0) : Type 0 where
+  pub accepted : (h : WorkerContext) (a : Attempt) → P h → P (logs h (Accepted a))
+  pub begun : (h : WorkerContext) (a : Attempt) (w : ℕ) → P h → P (logs h (Begun a w))
+  pub got : (h : WorkerContext) (a : Attempt) (y : Id) (c : Outcome) → P h → P (logs h (Got a y c))
+  pub faulted : (h : WorkerContext) (a : Attempt) (y : Id) (f : Fault) → P h → P (logs h (Faulted a y f))
+  pub resolved : (h : WorkerContext) (o : Id) (f : Fault) → P h → P (logs h (Resolved o f))
+  pub released : (h : WorkerContext) (o : Id) → P h → P (logs h (Released o))
+  pub said : (h : WorkerContext) (w : ℕ) (m : Message) → P h → P (says h w m)
+  pub said_to_node : (h : WorkerContext) (n : ℕ) (m : Message) → P h → P (says_to_node h n m)
+  pub worker : (h : WorkerContext) (x : Worker) → x.node ≡ h.worker.node → x.is_live ≡ h.worker.is_live → P h → P (with_worker h x)
+  pub looked : (h : WorkerContext) (o : Id) (number : ℕ) → P h → P (with_store h (looked_up (store_here h) o number))
+  pub copied : (h : WorkerContext) (o : Id) (number : ℕ) (c : Outcome) → P h → P (with_store h (with_secondary (store_here h) o number c))
+  pub primary : (h : WorkerContext) (o : Id) (v : Value) → P h → P (with_store h (with_primary (store_here h) o 0 (Val v)))
+  pub ended : (h : WorkerContext) (o : Id) (number : ℕ) (c : Outcome) → P h → P (with_store h (with_ended (store_here h) o number c))
+  pub frees : (h : WorkerContext) → P h → P (gives_slot_back h)
+  pub asks : (h : WorkerContext) → P h → P (asks_for_slot h)
 
-module _ (P : Here → Type 0) (kept : KeepsPlainly P) where
+module _ (P : WorkerContext → Type 0) (kept : KeepsPlainly P) where
   -- ---- the smallest steps are among these
 
   pub over : KeepsOver P
@@ -121,45 +121,45 @@ module _ (P : Here → Type 0) (kept : KeepsPlainly P) where
 
   -- ---- each step
 
-  resolves_used-kept : (h : Here) (o : Id) → P h → P (resolves_used h o)
+  resolves_used-kept : (h : WorkerContext) (o : Id) → P h → P (resolves_used h o)
   resolves_used-kept h o p = by_object (object_at h o)
     where
       by_object : (x : Option Object) → P (resolves_used_by h o x)
       by_object None = p
       by_object (Some x) = S.either P (is_wanted x) _ _ (kept.resolved _ o (fault RetriesUsed o) (kept.worker h _ refl refl p)) p
 
-  pub breaks-kept : (h : Here) (o : Id) (task : OwnTask) → P h → P (breaks h o task)
+  pub breaks-kept : (h : WorkerContext) (o : Id) (task : OwnTask) → P h → P (breaks h o task)
   breaks-kept h o task p = S.either P (may_try_again task) _ _ (kept.said_to_node _ _ _ (kept.worker h _ refl refl p))
       (S.each_result-kept P keeps answers_faulted (S.answers_faulted-kept P keeps) (each_result resolves_used (with_task_of h o (rests task)) o task) o task
       (S.each_result-kept P keeps resolves_used resolves_used-kept (with_task_of h o (rests task)) o task (kept.worker h _ refl refl p)))
 
-  pub tells_places-kept : (h : Here) (ws : List ℕ) (o : Id) (x : Object) → P h → P (tells_places h ws o x)
+  pub tells_places-kept : (h : WorkerContext) (ws : List ℕ) (o : Id) (x : Object) → P h → P (tells_places h ws o x)
   tells_places-kept h [] o x p = p
   tells_places-kept h (w ∷ ws) o x p = tells_places-kept (says h w (At o (settled_number x) x.places x.kept)) ws o x (kept.said h _ _ p)
 
-  answers_settled_by-kept : (h : Here) (o : Id) (x : Option Object) → P h → P (answers_settled_by h o x)
+  answers_settled_by-kept : (h : WorkerContext) (o : Id) (x : Option Object) → P h → P (answers_settled_by h o x)
   answers_settled_by-kept h o None p = p
   answers_settled_by-kept h o (Some x) p = S.needs_own_if_waiting-kept P keeps _ o (tells_places-kept _ x.askers o x (kept.worker h _ refl refl p))
 
-  pub answers_settled-kept : (h : Here) (o : Id) → P h → P (answers_settled h o)
+  pub answers_settled-kept : (h : WorkerContext) (o : Id) → P h → P (answers_settled h o)
   answers_settled-kept h o p = answers_settled_by-kept h o (object_at h o) p
 
-  pub asks_where-kept : (h : Here) (y : Id) → P h → P (asks_where h y)
+  pub asks_where-kept : (h : WorkerContext) (y : Id) → P h → P (asks_where h y)
   asks_where-kept h y p = S.either P _ _ _ (S.needs_own-kept P keeps h y p) (S.either P _ _ _ (S.faults-kept P keeps h _ p) (kept.said h _ _ p))
 
-  claim_by-kept : (h : Here) (j : ℕ) (r : Option Run) → P h → P (claim_by h j r)
+  claim_by-kept : (h : WorkerContext) (j : ℕ) (r : Option Execution) → P h → P (claim_by h j r)
   claim_by-kept h j None p = p
   claim_by-kept h j (Some run) p = kept.worker h _ refl refl p
 
-  pub claim_step-kept : (h : Here) (j : ℕ) → P h → P (claim_step h j)
+  pub claim_step-kept : (h : WorkerContext) (j : ℕ) → P h → P (claim_step h j)
   claim_step-kept h j p = claim_by-kept h j h.worker.run p
 
-  pub ends-kept : (h : Here) (run : Run) (cs : List Outcome) → P h → P (ends h run cs)
+  pub ends-kept : (h : WorkerContext) (run : Execution) (cs : List Outcome) → P h → P (ends h run cs)
   ends-kept h run cs p =
       kept.frees _ (S.leaves_if_free-kept P over _ (S.keeps_contents-kept P keeps births (with_phase h run (HasEnded cs)) run.attempt.object run.attempt.number cs
       (kept.worker h _ refl refl p)))
 
-  pub stops_by-kept : (h : Here) (stop : Stopped) (r : Option Run) → P h → P (stops_by h stop r)
+  pub stops_by-kept : (h : WorkerContext) (stop : Stopped) (r : Option Execution) → P h → P (stops_by h stop r)
   stops_by-kept h stop None p = p
   stops_by-kept h (AtGet y) (Some run) p = S.needs-kept P keeps h run y (kept.worker h _ refl refl p)
   stops_by-kept h (AtEnd cs) (Some run) p = ends-kept h run cs p

@@ -2,7 +2,7 @@
 use Rattle.std.specs.Prelude.{List, [], codes, if◌then◌else◌, length, nat_lt, suc, zero, ℕ, ◌++◌}
 use Rattle.std.specs.List.{flat_map}
 use Rattle.std.specs.Fmt.{decimal}
-use Rattle.protocol_data.specs.declared.whole.Whole.{Whole}
+use Rattle.protocol_data.specs.declared.cluster_state.ClusterState.{ClusterState}
 
 -- of those below that number
 unfoldable pub below : (ℕ → List ℕ) → ℕ → List ℕ
@@ -10,7 +10,7 @@ below told zero = []
 below told (suc n) = below told n ++ told n
 
 -- workers have numbers of 32 bits
-abbrev pub worker_count : Whole → ℕ
+abbrev pub worker_count : ClusterState → ℕ
 worker_count c = if nat_lt 4294967295 (length c.workers) then 4294967295 else length c.workers
 
 abbrev pub worker_word : ℕ → List ℕ

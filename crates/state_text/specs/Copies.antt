@@ -8,11 +8,11 @@ use Rattle.event_log.specs.Entries.{main_object}
 use Rattle.event_log.specs.Words.{attempt}
 use Rattle.protocol_data.specs.Shelves.{is_sought}
 use Rattle.protocol_data.specs.declared.store.Store.{Store}
-use Rattle.protocol_data.specs.declared.tables.Maker.{Maker}
-use Rattle.protocol_data.specs.declared.tables.Maker.TheVariants.{Beside, ByTask, WasPut}
+use Rattle.protocol_data.specs.declared.tables.ObjectSource.{ObjectSource}
+use Rattle.protocol_data.specs.declared.tables.ObjectSource.TheVariants.{Beside, ByTask, WasPut}
 use Rattle.protocol_data.specs.declared.tables.Object.{Object}
 use Rattle.protocol_data.specs.declared.tables.Worker.{Worker}
-use Rattle.protocol_data.specs.declared.whole.Whole.{Whole}
+use Rattle.protocol_data.specs.declared.cluster_state.ClusterState.{ClusterState}
 use Rattle.state_text.specs.Below.{below, worker_count}
 use Rattle.state_text.specs.Tasks.{number_at}
 
@@ -54,14 +54,14 @@ beside_copies n s first o None = []
 beside_copies n s first o (Some k) = made_copies n s first o k
 
 -- of all attempts of its task up to the present one
-abbrev pub object_copies : ℕ → Store → List Object → Id → Maker → List ℕ
+abbrev pub object_copies : ℕ → Store → List Object → Id → ObjectSource → List ℕ
 object_copies n s objects o WasPut = copy_lines n s None o 0
 object_copies n s objects o (ByTask task) = made_copies n s o.serial o task.number
 object_copies n s objects o (Beside first) = beside_copies n s first o (number_at objects first)
 
 abbrev pub row_copies_of : ℕ → Store → List Object → Id → Option Object → List ℕ
 row_copies_of n s objects o None = []
-row_copies_of n s objects o (Some x) = object_copies n s objects o x.maker
+row_copies_of n s objects o (Some x) = object_copies n s objects o x.source
 
 -- of worker w's object at a place
 unfoldable pub row_copies : ℕ → Store → ℕ → List Object → ℕ → List ℕ
@@ -75,12 +75,12 @@ worker_copies_of n s w None = []
 worker_copies_of n s w (Some x) = copies_of n s w x
 
 -- of the worker's at a place
-unfoldable pub worker_copies : ℕ → Store → Whole → ℕ → List ℕ
+unfoldable pub worker_copies : ℕ → Store → ClusterState → ℕ → List ℕ
 worker_copies n s c place = worker_copies_of n s (place + 1) (slice_get c.workers place)
 
-abbrev pub owned_copies : ℕ → Store → Whole → List ℕ
+abbrev pub owned_copies : ℕ → Store → ClusterState → List ℕ
 owned_copies n s c = below (worker_copies n s c) (worker_count c)
 
 -- main's own first
-abbrev pub copies_text : ℕ → Store → Whole → List ℕ
+abbrev pub copies_text : ℕ → Store → ClusterState → List ℕ
 copies_text n s c = copy_lines n s (Some main_object.serial) main_object 0 ++ owned_copies n s c

@@ -10,7 +10,7 @@ use Rattle.event_log.specs.Words.{births, same_attempt}
 use Rattle.log_text.specs.Attempts.{named_text}
 use Rattle.log_words.specs.Ids.{ids_of}
 use Rattle.log_words.specs.Tasks.{task_of}
-use Rattle.protocol_data.specs.declared.tables.Run.{Run}
+use Rattle.protocol_data.specs.declared.tables.Execution.{Execution}
 use Rattle.protocol_data.specs.declared.tables.Worker.{Worker}
 
 abbrev pub has_id : Id → List Id → Bool
@@ -41,12 +41,12 @@ or_of_task births o None = birth_at births (task_of births o)
 or_of_task births o (Some b) = Some b
 
 -- what makes the object: what was born with it first, else the task of which it is a further result
-abbrev pub maker_of : List Bearing → Id → Option Birth
-maker_of births o = or_of_task births o (birth_at births o)
+abbrev pub source_of : List Bearing → Id → Option Birth
+source_of births o = or_of_task births o (birth_at births o)
 
 -- o1.1: held by o1.2 as an argument of f
 unfoldable pub holder_line : List Entry → Id → Id → List ℕ
-holder_line log o e = object_text o ++ (codes ": held by " ++ object_text e) ++ holder_note o (maker_of (births log) e)
+holder_line log o e = object_text o ++ (codes ": held by " ++ object_text e) ++ holder_note o (source_of (births log) e)
 
 -- who was removed holds it no more
 abbrev pub holder_lines : List Entry → Id → List Id → Id → List ℕ
@@ -55,7 +55,7 @@ holder_lines log o removed e = if has_id e removed then [] else holder_line log 
 abbrev pub holders_text : List Entry → Id → List Id → List Id → List ℕ
 holders_text log o removed added = flat_map (holder_lines log o removed) added
 
-abbrev pub is_going_on : Option Run → Attempt → Bool
+abbrev pub is_going_on : Option Execution → Attempt → Bool
 is_going_on None a = false
 is_going_on (Some r) a = same_attempt r.attempt a && not r.is_over
 

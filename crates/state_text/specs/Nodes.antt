@@ -8,7 +8,7 @@ use Rattle.log_text.specs.Attempts.{named_text}
 use Rattle.protocol_data.specs.declared.node.AskKey.{AskKey}
 use Rattle.protocol_data.specs.declared.node.Node.{Node}
 use Rattle.protocol_data.specs.declared.tables.Worker.{Worker}
-use Rattle.protocol_data.specs.declared.whole.Whole.{Whole}
+use Rattle.protocol_data.specs.declared.cluster_state.ClusterState.{ClusterState}
 use Rattle.state_text.specs.Below.{below, worker_count, worker_word, worker_words}
 use Rattle.state_text.specs.Copies.{copies_text}
 
@@ -34,14 +34,14 @@ on_node_of n w None = []
 on_node_of n w (Some x) = if x.node == n then worker_word w else []
 
 -- the worker at a place, if it is on the node
-unfoldable pub on_node : ℕ → Whole → ℕ → List ℕ
+unfoldable pub on_node : ℕ → ClusterState → ℕ → List ℕ
 on_node n c place = on_node_of n (place + 1) (slice_get c.workers place)
 
-abbrev pub all_on : ℕ → Whole → List ℕ
+abbrev pub all_on : ℕ → ClusterState → List ℕ
 all_on n c = below (on_node n c) (worker_count c)
 
 -- n1: workers w1 w2
-abbrev pub workers_line : ℕ → Whole → List ℕ
+abbrev pub workers_line : ℕ → ClusterState → List ℕ
 workers_line n c = codes "n" ++ (decimal n ++ codes ": workers") ++ (all_on n c ++ codes "\n")
 
 -- n1: w2 waits for a slot
@@ -62,22 +62,22 @@ abbrev pub asks_text : List Entry → ℕ → List AskKey → List ℕ
 asks_text log n queue = flat_map (ask_lines log n) queue
 
 -- first who was answered, then who asks: in this order slots are given
-abbrev pub live_text : List Entry → Whole → ℕ → Node → List ℕ
+abbrev pub live_text : List Entry → ClusterState → ℕ → Node → List ℕ
 live_text log c n x =
     if x.is_live
     then answered_text n x.scheduler.answered ++ (asks_text log n x.scheduler.queue ++ copies_text n x.store c)
     else []
 
-abbrev pub node_text : List Entry → Whole → ℕ → Node → List ℕ
+abbrev pub node_text : List Entry → ClusterState → ℕ → Node → List ℕ
 node_text log c n x = node_head n x ++ (workers_line n c ++ live_text log c n x)
 
-abbrev pub node_lines_of : List Entry → Whole → ℕ → Option Node → List ℕ
+abbrev pub node_lines_of : List Entry → ClusterState → ℕ → Option Node → List ℕ
 node_lines_of log c n None = []
 node_lines_of log c n (Some x) = node_text log c n x
 
 -- of the node at a place
-unfoldable pub node_lines : List Entry → Whole → ℕ → List ℕ
+unfoldable pub node_lines : List Entry → ClusterState → ℕ → List ℕ
 node_lines log c place = node_lines_of log c (place + 1) (slice_get c.nodes place)
 
-unfoldable pub nodes_text : List Entry → Whole → List ℕ
+unfoldable pub nodes_text : List Entry → ClusterState → List ℕ
 nodes_text log c = below (node_lines log c) (length c.nodes)

@@ -7,13 +7,13 @@ use Rattle.ids.specs.Texts.{attempt_text, object_text}
 use Rattle.event_log.specs.Entries.{Entry, Fault}
 use Rattle.event_log.specs.Words.{attempt, births}
 use Rattle.log_words.specs.Faults.{fault_words}
-use Rattle.protocol_data.specs.declared.tables.Maker.{Maker}
-use Rattle.protocol_data.specs.declared.tables.Maker.TheVariants.{Beside, ByTask, WasPut}
+use Rattle.protocol_data.specs.declared.tables.ObjectSource.{ObjectSource}
+use Rattle.protocol_data.specs.declared.tables.ObjectSource.TheVariants.{Beside, ByTask, WasPut}
 use Rattle.protocol_data.specs.declared.tables.Object.{Object}
 use Rattle.protocol_data.specs.declared.tables.Progress.{Progress}
 use Rattle.protocol_data.specs.declared.tables.Progress.TheVariants.{AskedAt, AtRest, RunsOn}
 use Rattle.protocol_data.specs.declared.tables.Worker.{Worker}
-use Rattle.protocol_data.specs.declared.whole.Whole.{Whole}
+use Rattle.protocol_data.specs.declared.cluster_state.ClusterState.{ClusterState}
 use Rattle.state_text.specs.Below.{below, node_words, worker_count}
 use Rattle.state_text.specs.Holders.{askers_text, frame_line, holders_text}
 use Rattle.state_text.specs.Tasks.{is_pending_at}
@@ -26,16 +26,16 @@ function_name _ = []
 abbrev pub first_of : Id → ℕ → Id
 first_of o serial = record { owner = o.owner; serial = serial }
 
-abbrev pub maker_text : List Entry → Id → Maker → List ℕ
-maker_text log o WasPut = codes "put"
-maker_text log o (ByTask task) = codes "made by " ++ function_name (birth_at (births log) o)
-maker_text log o (Beside serial) = codes "made by " ++ function_name (birth_at (births log) (first_of o serial))
+abbrev pub source_text : List Entry → Id → ObjectSource → List ℕ
+source_text log o WasPut = codes "put"
+source_text log o (ByTask task) = codes "made by " ++ function_name (birth_at (births log) o)
+source_text log o (Beside serial) = codes "made by " ++ function_name (birth_at (births log) (first_of o serial))
 
 -- settled by attempt k of the task that stands with the object
 abbrev pub settled_by : Id → ℕ → List ℕ
 settled_by o k = codes ", settled by " ++ (attempt_text (attempt o k) ++ codes "\n")
 
-abbrev pub settled_note : Id → Maker → ℕ → List ℕ
+abbrev pub settled_note : Id → ObjectSource → ℕ → List ℕ
 settled_note o WasPut k = codes ", settled\n"
 settled_note o (ByTask task) k = settled_by o k
 settled_note o (Beside serial) k = settled_by (first_of o serial) k
@@ -47,7 +47,7 @@ is_somewhere [] None = false
 is_somewhere (n ∷ ns) None = true
 
 abbrev pub found_text : Id → Object → ℕ → Bool → List ℕ
-found_text o x k somewhere = if somewhere then settled_note o x.maker k else codes ", lost\n"
+found_text o x k somewhere = if somewhere then settled_note o x.source k else codes ", lost\n"
 
 abbrev pub rest_of : Id → Object → Option ℕ → List ℕ
 rest_of o x None = codes ", at rest\n"
@@ -71,7 +71,7 @@ abbrev pub beside_state : Id → Object → Id → Bool → List ℕ
 beside_state o x first pending = if pending && not (is_somewhere x.places x.kept) then comes_with first else rest_text o x
 
 -- beside the objects of its owner
-abbrev pub made_state : List Object → Id → Object → Maker → List ℕ
+abbrev pub made_state : List Object → Id → Object → ObjectSource → List ℕ
 made_state objects o x WasPut = rest_text o x
 made_state objects o x (ByTask task) = progress_text o x task.number task.progress
 made_state objects o x (Beside serial) = beside_state o x (first_of o serial) (is_pending_at objects serial)
@@ -80,7 +80,7 @@ abbrev pub resolved_note : Fault → List ℕ
 resolved_note f = codes ", resolved: " ++ (fault_words f ++ codes "\n")
 
 abbrev pub end_text : List Object → Id → Object → Option Fault → List ℕ
-end_text objects o x None = made_state objects o x x.maker
+end_text objects o x None = made_state objects o x x.source
 end_text objects o x (Some f) = resolved_note f
 
 unfoldable pub stands_text : List Object → Id → Object → List ℕ
@@ -98,7 +98,7 @@ owner_note w o x = if w.is_live then owner_head o ++ stands_text w.objects o x e
 
 -- o1.2: made by f, owner w1, pending: a1.2#0 began on w2
 unfoldable pub object_head : List Entry → Worker → Id → Object → List ℕ
-object_head log w o x = object_text o ++ codes ": " ++ (maker_text log o x.maker ++ owner_note w o x)
+object_head log w o x = object_text o ++ codes ": " ++ (source_text log o x.source ++ owner_note w o x)
 
 -- o1.2: 1 of 3 retries used
 abbrev pub used_line : Id → ℕ → Option Birth → List ℕ
@@ -106,7 +106,7 @@ used_line o k (Some (Task g args depth retries others)) =
     object_text o ++ (codes ": " ++ (decimal k ++ (codes " of " ++ (decimal retries ++ codes " retries used\n"))))
 used_line o k _ = []
 
-abbrev pub retries_line : List Entry → Id → Maker → List ℕ
+abbrev pub retries_line : List Entry → Id → ObjectSource → List ℕ
 retries_line log o WasPut = []
 retries_line log o (ByTask task) = used_line o task.number (birth_at (births log) o)
 retries_line log o (Beside serial) = []
@@ -129,7 +129,7 @@ kept_line o (Some c) = object_text o ++ codes ": small, kept by its owner\n"
 -- what a live owner knows of it
 unfoldable pub live_lines : List Entry → Worker → Id → Object → List ℕ
 live_lines log w o x =
-    retries_line log o x.maker
+    retries_line log o x.source
     ++ (copies_line o x.places
     ++ (kept_line o x.kept
     ++ (holders_text log o x.removed x.added ++ (frame_line log w o x.bearer ++ askers_text o x.askers))))
@@ -153,9 +153,9 @@ worker_objects_of log v None = []
 worker_objects_of log v (Some w) = objects_text log v w
 
 -- of the objects of the worker at a place
-unfoldable pub worker_objects : List Entry → Whole → ℕ → List ℕ
+unfoldable pub worker_objects : List Entry → ClusterState → ℕ → List ℕ
 worker_objects log c place = worker_objects_of log (place + 1) (slice_get c.workers place)
 
 -- of each object of each owner, in order of ids
-unfoldable pub all_objects_text : List Entry → Whole → List ℕ
+unfoldable pub all_objects_text : List Entry → ClusterState → List ℕ
 all_objects_text log c = below (worker_objects log c) (worker_count c)

@@ -14,12 +14,12 @@ use Rattle.protocol_data.specs.declared.tables.Fetching.{Fetching}
 use Rattle.protocol_data.specs.declared.tables.Holding.{Holding}
 use Rattle.protocol_data.specs.declared.tables.Phase.{Phase}
 use Rattle.protocol_data.specs.declared.tables.Phase.TheVariants.{HasEnded, HasFaulted, Out, Ready, Waits}
-use Rattle.protocol_data.specs.declared.tables.Run.{Run}
+use Rattle.protocol_data.specs.declared.tables.Execution.{Execution}
 use Rattle.protocol_data.specs.declared.tables.Worker.{Worker}
-use Rattle.protocol_data.specs.declared.whole.Whole.{Whole}
+use Rattle.protocol_data.specs.declared.cluster_state.ClusterState.{ClusterState}
 use Rattle.state_text.specs.Below.{below, worker_count}
 
-abbrev pub node_at : Whole → ℕ → Option Node
+abbrev pub node_at : ClusterState → ℕ → Option Node
 node_at c n = from_one c.nodes n
 
 -- worker w has a slot of the node
@@ -48,7 +48,7 @@ given_note log (Some a) = codes ", given to " ++ (named_text (births log) a ++ c
 abbrev pub idle_note : List Entry → Bool → Option Attempt → List ℕ
 idle_note log idle lease = if idle then codes ", idle\n" else given_note log lease
 
-unfoldable pub standing_text : List Entry → Whole → ℕ → ℕ → List ℕ
+unfoldable pub standing_text : List Entry → ClusterState → ℕ → ℕ → List ℕ
 standing_text log c w n =
     if w == 1 then codes ", driver\n" else idle_note log (is_idle w (node_at c n)) (lease_at w (node_at c n))
 
@@ -56,7 +56,7 @@ standing_text log c w n =
 unfoldable pub alive_head : ℕ → ℕ → List ℕ
 alive_head w n = codes "w" ++ (decimal w ++ (codes ": alive, on n" ++ decimal n))
 
-abbrev pub live_head : List Entry → Whole → ℕ → ℕ → List ℕ
+abbrev pub live_head : List Entry → ClusterState → ℕ → ℕ → List ℕ
 live_head log c w n = alive_head w n ++ standing_text log c w n
 
 abbrev pub ready_note : ℕ → Bool → List ℕ
@@ -72,7 +72,7 @@ ended_note acknowledged = if acknowledged then codes " ended\n" else codes " end
 abbrev pub faulted_note : Bool → List ℕ
 faulted_note acknowledged = if acknowledged then codes " ended with a fault\n" else codes " ended with a fault, not acknowledged\n"
 
-abbrev pub phase_text : Whole → ℕ → ℕ → Bool → Phase → List ℕ
+abbrev pub phase_text : ClusterState → ℕ → ℕ → Bool → Phase → List ℕ
 phase_text c w n acknowledged Ready = ready_note n (has_slot w (node_at c n))
 phase_text c w n acknowledged (Out j) = codes " took job " ++ (decimal j ++ codes "\n")
 phase_text c w n acknowledged (Waits o f) = wait_note o f
@@ -92,28 +92,28 @@ abbrev pub holds_text : ℕ → List Holding → List ℕ
 holds_text w holds = flat_map (hold_line w) holds
 
 -- w2: a1.2#0 (f) waits for o1.1, asked n2 for a copy
-unfoldable pub run_text : List Entry → Whole → ℕ → ℕ → Run → List ℕ
+unfoldable pub run_text : List Entry → ClusterState → ℕ → ℕ → Execution → List ℕ
 run_text log c w n r =
     codes "w" ++ (decimal w ++ codes ": ")
     ++ (named_text (births log) r.attempt ++ (phase_text c w n r.is_acknowledged r.phase ++ holds_text w r.holds))
 
-abbrev pub any_run_text : List Entry → Whole → ℕ → ℕ → Option Run → List ℕ
+abbrev pub any_run_text : List Entry → ClusterState → ℕ → ℕ → Option Execution → List ℕ
 any_run_text log c w n None = []
 any_run_text log c w n (Some r) = run_text log c w n r
 
-abbrev pub worker_text : List Entry → Whole → ℕ → Worker → List ℕ
+abbrev pub worker_text : List Entry → ClusterState → ℕ → Worker → List ℕ
 worker_text log c w x =
     if x.is_live
     then live_head log c w x.node ++ any_run_text log c w x.node x.run
     else codes "w" ++ (decimal w ++ (codes ": dead, on n" ++ (decimal x.node ++ codes "\n")))
 
-abbrev pub worker_lines_of : List Entry → Whole → ℕ → Option Worker → List ℕ
+abbrev pub worker_lines_of : List Entry → ClusterState → ℕ → Option Worker → List ℕ
 worker_lines_of log c w None = []
 worker_lines_of log c w (Some x) = worker_text log c w x
 
 -- of the worker at a place
-unfoldable pub worker_lines : List Entry → Whole → ℕ → List ℕ
+unfoldable pub worker_lines : List Entry → ClusterState → ℕ → List ℕ
 worker_lines log c place = worker_lines_of log c (place + 1) (slice_get c.workers place)
 
-unfoldable pub workers_text : List Entry → Whole → List ℕ
+unfoldable pub workers_text : List Entry → ClusterState → List ℕ
 workers_text log c = below (worker_lines log c) (worker_count c)

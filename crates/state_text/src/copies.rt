@@ -10,7 +10,7 @@ ghost use Rattle.state_text.specs.Copies.{row_copies, secondary_line, worker_cop
 use crate::standing::worker_count;
 use crate::tasks::number_at;
 use ids::{AttemptId, ObjectId, WorkerId};
-use protocol_data::{Maker, Objects, Store, Whole, Worker};
+use protocol_data::{ClusterState, ObjectSource, Objects, Store, Worker};
 use std::alloc::AllocError;
 
 fn has_primary(store: &Store, object: ObjectId, number: u32) -> bool
@@ -156,17 +156,17 @@ fn write_object_copies(
     store: &Store,
     objects: &Objects,
     object: ObjectId,
-    maker: &Maker,
+    source: &ObjectSource,
 ) -> Result<(), AllocError>
-    ensures { OnOk result (string_bytes text.new ≡ string_bytes text.old ++ object_copies node store.now objects.now object maker.now) }
+    ensures { OnOk result (string_bytes text.new ≡ string_bytes text.old ++ object_copies node store.now objects.now object source.now) }
 {
-    match maker {
-        Maker::WasPut => write_copy(text, node, store, None, object, 0),
-        Maker::ByTask(task) => {
+    match source {
+        ObjectSource::WasPut => write_copy(text, node, store, None, object, 0),
+        ObjectSource::ByTask(task) => {
             let first = object.serial;
             write_made(text, node, store, first, object, task.number)
         }
-        Maker::Beside(first) => {
+        ObjectSource::Beside(first) => {
             let number = number_at(objects, *first);
             write_beside(text, node, store, *first, object, number)
         }
@@ -193,7 +193,7 @@ fn write_row_copies(
         serial: place as u64 + 1,
     };
     let row = worker.objects.row(place);
-    write_object_copies(text, node, store, &worker.objects, object, &row.maker)
+    write_object_copies(text, node, store, &worker.objects, object, &row.source)
 }
 
 fn write_copies_of(
@@ -217,7 +217,7 @@ fn write_worker_copies(
     text: &mut String,
     node: usize,
     store: &Store,
-    whole: &Whole,
+    whole: &ClusterState,
     place: u32,
 ) -> Result<(), AllocError>
     requires { place < 4294967295 }
@@ -234,7 +234,7 @@ fn write_owned_copies(
     text: &mut String,
     node: usize,
     store: &Store,
-    whole: &Whole,
+    whole: &ClusterState,
 ) -> Result<(), AllocError>
     ensures { OnOk result (string_bytes text.new ≡ string_bytes text.old ++ owned_copies node store.now whole.now) }
 {
@@ -249,7 +249,7 @@ pub fn write_copies(
     text: &mut String,
     node: usize,
     store: &Store,
-    whole: &Whole,
+    whole: &ClusterState,
 ) -> Result<(), AllocError>
     ensures { OnOk result (string_bytes text.new ≡ string_bytes text.old ++ copies_text node store.now whole.now) }
 {

@@ -7,7 +7,7 @@ ghost use Rattle.event_log.specs.Words.{births};
 ghost use Rattle.log_words.specs.Index.{IsIndexOf};
 ghost use Rattle.state_text.specs.Holders.{argument_note, asker_line, askers_text, frame_head, frame_text, frame_line};
 ghost use Rattle.state_text.specs.Holders.{has_id, holder_line, holder_lines, holder_note, holders_text, is_argument};
-ghost use Rattle.state_text.specs.Holders.{is_going_on, maker_of, mentions, way_note};
+ghost use Rattle.state_text.specs.Holders.{is_going_on, source_of, mentions, way_note};
 
 use ids::{AttemptId, ObjectId, WorkerId};
 use log_entries::Entry;
@@ -86,9 +86,9 @@ fn write_note(
 }
 
 /// What makes the object: what was born with it first, else the task of which it is a further result.
-fn maker_of<'a>(index: &'a BirthIndex, log: &'a [Entry], object: ObjectId) -> Option<&'a Birth>
+fn source_of<'a>(index: &'a BirthIndex, log: &'a [Entry], object: ObjectId) -> Option<&'a Birth>
     ensures { IsIndexOf index.now log.now →
-        option_map birth_of (option_copied result) ≡ maker_of (births log.now) object }
+        option_map birth_of (option_copied result) ≡ source_of (births log.now) object }
 {
     let Some(birth) = index.birth(log, object) else {
         return index.birth(log, task_of(log, object));
@@ -109,7 +109,7 @@ fn write_holder(
         (string_bytes text.new ≡ string_bytes text.old ++ holder_line log.now object holder) }
 {
     write!(text, "{object}: held by {holder}")?;
-    write_note(alloc, text, maker_of(index, log, holder), object)
+    write_note(alloc, text, source_of(index, log, holder), object)
 }
 
 fn write_holder_unless(

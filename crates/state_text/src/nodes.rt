@@ -12,7 +12,7 @@ use ids::{AttemptId, WorkerId};
 use log_entries::Entry;
 use log_text::write_named;
 use log_words::BirthIndex;
-use protocol_data::{AskKey, Node, Whole};
+use protocol_data::{AskKey, ClusterState, Node};
 use std::alloc::AllocError;
 
 /// Writes who has the slots that are taken.
@@ -44,7 +44,7 @@ fn write_head(text: &mut String, number: usize, node: &Node) -> Result<(), Alloc
 fn write_on_node(
     text: &mut String,
     number: usize,
-    whole: &Whole,
+    whole: &ClusterState,
     place: u32,
 ) -> Result<(), AllocError>
     requires { place < 4294967295 }
@@ -60,7 +60,7 @@ fn write_on_node(
     write!(text, " w{worker}")
 }
 
-fn write_all_on(text: &mut String, number: usize, whole: &Whole) -> Result<(), AllocError>
+fn write_all_on(text: &mut String, number: usize, whole: &ClusterState) -> Result<(), AllocError>
     ensures { OnOk result (string_bytes text.new ≡ string_bytes text.old ++ all_on number whole.now) }
 {
     for place in 0..worker_count(whole) {
@@ -69,7 +69,11 @@ fn write_all_on(text: &mut String, number: usize, whole: &Whole) -> Result<(), A
     Ok(())
 }
 
-fn write_node_workers(text: &mut String, number: usize, whole: &Whole) -> Result<(), AllocError>
+fn write_node_workers(
+    text: &mut String,
+    number: usize,
+    whole: &ClusterState,
+) -> Result<(), AllocError>
     ensures { OnOk result (string_bytes text.new ≡ string_bytes text.old ++ workers_line number whole.now) }
 {
     write!(text, "n{number}: workers")?;
@@ -132,7 +136,7 @@ fn write_live(
     text: &mut String,
     index: &BirthIndex,
     log: &[Entry],
-    whole: &Whole,
+    whole: &ClusterState,
     number: usize,
     node: &Node,
 ) -> Result<(), AllocError>
@@ -151,7 +155,7 @@ fn write_node(
     text: &mut String,
     index: &BirthIndex,
     log: &[Entry],
-    whole: &Whole,
+    whole: &ClusterState,
     number: usize,
     node: &Node,
 ) -> Result<(), AllocError>
@@ -169,7 +173,7 @@ fn write_node_at(
     text: &mut String,
     index: &BirthIndex,
     log: &[Entry],
-    whole: &Whole,
+    whole: &ClusterState,
     place: usize,
 ) -> Result<(), AllocError>
     requires { place + 1 < 2 ^ 64 }
@@ -188,7 +192,7 @@ pub fn write_nodes(
     text: &mut String,
     index: &BirthIndex,
     log: &[Entry],
-    whole: &Whole,
+    whole: &ClusterState,
 ) -> Result<(), AllocError>
     ensures { IsIndexOf index.now log.now → OnOk result
         (string_bytes text.new ≡ string_bytes text.old ++ nodes_text log.now whole.now) }

@@ -7,7 +7,7 @@ ghost use Rattle.event_log.specs.Words.{births};
 ghost use Rattle.task_spec.specs.Births.{birth_of};
 ghost use Rattle.log_words.specs.Index.{IsIndexOf};
 ghost use Rattle.state_text.specs.Objects.{all_objects_text, beside_state, copies_line, dead_note, first_of, function_name};
-ghost use Rattle.state_text.specs.Objects.{is_somewhere, kept_line, live_lines, made_state, maker_text};
+ghost use Rattle.state_text.specs.Objects.{is_somewhere, kept_line, live_lines, made_state, source_text};
 ghost use Rattle.state_text.specs.Objects.{object_head, object_text_of, objects_text, owner_head, owner_note, placed_head};
 ghost use Rattle.state_text.specs.Objects.{placed_text, progress_text, resolved_note, rest_text, retries_line, row_lines};
 ghost use Rattle.state_text.specs.Objects.{settled_by, settled_note, stands_text, used_line, worker_objects};
@@ -19,7 +19,7 @@ use held::SharedContent;
 use ids::{AttemptId, NodeId, ObjectId, WorkerId};
 use log_entries::Entry;
 use log_words::{BirthIndex, write_fault};
-use protocol_data::{Maker, Object, Objects, Progress, Whole, Worker};
+use protocol_data::{ClusterState, Object, ObjectSource, Objects, Progress, Worker};
 use std::alloc::{AllocError, Global};
 use task_spec::Birth;
 use values::Fault;
@@ -57,20 +57,20 @@ fn write_task(
 }
 
 /// Writes what makes the object.
-fn write_maker(
+fn write_source(
     text: &mut String,
     index: &BirthIndex,
     log: &[Entry],
     object: ObjectId,
-    maker: &Maker,
+    source: &ObjectSource,
 ) -> Result<(), AllocError>
     ensures { IsIndexOf index.now log.now → OnOk result
-        (string_bytes text.new ≡ string_bytes text.old ++ maker_text log.now object maker.now) }
+        (string_bytes text.new ≡ string_bytes text.old ++ source_text log.now object source.now) }
 {
-    match maker {
-        Maker::WasPut => text.push_str("put"),
-        Maker::ByTask(_) => write_task(text, index, log, object),
-        Maker::Beside(serial) => write_task(text, index, log, first_of(object, *serial)),
+    match source {
+        ObjectSource::WasPut => text.push_str("put"),
+        ObjectSource::ByTask(_) => write_task(text, index, log, object),
+        ObjectSource::Beside(serial) => write_task(text, index, log, first_of(object, *serial)),
     }
 }
 
@@ -86,15 +86,15 @@ fn write_settled_by(text: &mut String, object: ObjectId, number: u32) -> Result<
 fn write_settled(
     text: &mut String,
     object: ObjectId,
-    maker: &Maker,
+    source: &ObjectSource,
     number: u32,
 ) -> Result<(), AllocError>
-    ensures { OnOk result (string_bytes text.new ≡ string_bytes text.old ++ settled_note object maker.now number) }
+    ensures { OnOk result (string_bytes text.new ≡ string_bytes text.old ++ settled_note object source.now number) }
 {
-    match maker {
-        Maker::WasPut => text.push_str(", settled\n"),
-        Maker::ByTask(_) => write_settled_by(text, object, number),
-        Maker::Beside(serial) => write_settled_by(text, first_of(object, *serial), number),
+    match source {
+        ObjectSource::WasPut => text.push_str(", settled\n"),
+        ObjectSource::ByTask(_) => write_settled_by(text, object, number),
+        ObjectSource::Beside(serial) => write_settled_by(text, first_of(object, *serial), number),
     }
 }
 
@@ -114,7 +114,7 @@ fn write_rest(text: &mut String, object: ObjectId, row: &Object) -> Result<(), A
     if !is_somewhere(row.places.as_slice(), &row.kept) {
         return text.push_str(", lost\n");
     }
-    write_settled(text, object, &row.maker, number)
+    write_settled(text, object, &row.source, number)
 }
 
 /// Writes how far an attempt is that is asked for or under way, or how the object stands without one.
@@ -160,12 +160,12 @@ fn write_made(
     object: ObjectId,
     row: &Object,
 ) -> Result<(), AllocError>
-    ensures { OnOk result (string_bytes text.new ≡ string_bytes text.old ++ made_state objects.now object row.now row.now.maker) }
+    ensures { OnOk result (string_bytes text.new ≡ string_bytes text.old ++ made_state objects.now object row.now row.now.source) }
 {
-    match &row.maker {
-        Maker::WasPut => write_rest(text, object, row),
-        Maker::ByTask(task) => write_progress(text, object, row, task.number, task.progress),
-        Maker::Beside(serial) => {
+    match &row.source {
+        ObjectSource::WasPut => write_rest(text, object, row),
+        ObjectSource::ByTask(task) => write_progress(text, object, row, task.number, task.progress),
+        ObjectSource::Beside(serial) => {
             let is_pending = is_pending_at(objects, *serial);
             write_beside(text, object, row, first_of(object, *serial), is_pending)
         }
@@ -231,7 +231,7 @@ fn write_head(
         (string_bytes text.new ≡ string_bytes text.old ++ object_head log.now worker.now object row.now) }
 {
     write!(text, "{object}: ")?;
-    write_maker(text, index, log, object, &row.maker)?;
+    write_source(text, index, log, object, &row.source)?;
     write_owner(text, worker, object, row)
 }
 
@@ -272,14 +272,19 @@ fn write_retries(
     index: &BirthIndex,
     log: &[Entry],
     object: ObjectId,
-    maker: &Maker,
+    source: &ObjectSource,
 ) -> Result<(), AllocError>
     ensures { IsIndexOf index.now log.now → OnOk result
-        (string_bytes text.new ≡ string_bytes text.old ++ retries_line log.now object maker.now) }
+        (string_bytes text.new ≡ string_bytes text.old ++ retries_line log.now object source.now) }
 {
-    match maker {
-        Maker::WasPut | Maker::Beside(_) => Ok(()),
-        Maker::ByTask(task) => write_used(text, index.birth(log, object), object, task.number),
+    match source {
+        ObjectSource::WasPut | ObjectSource::Beside(_) => Ok(()),
+        ObjectSource::ByTask(task) => write_used(
+            text,
+            index.birth(log, object),
+            object,
+            task.number,
+        ),
     }
 }
 
@@ -337,7 +342,7 @@ fn write_live(
     ensures { IsIndexOf index.now log.now → OnOk result
         (string_bytes text.new ≡ string_bytes text.old ++ live_lines log.now worker.now object row.now) }
 {
-    write_retries(text, index, log, object, &row.maker)?;
+    write_retries(text, index, log, object, &row.source)?;
     write_places(text, object, row.places.as_slice())?;
     write_kept(text, object, &row.kept)?;
     write_holders(alloc, text, index, log, object, row)?;
@@ -414,7 +419,7 @@ fn write_worker_objects(
     text: &mut String,
     index: &BirthIndex,
     log: &[Entry],
-    whole: &Whole,
+    whole: &ClusterState,
     place: u32,
 ) -> Result<(), AllocError>
     requires { place < 4294967295 }
@@ -434,7 +439,7 @@ pub fn write_all_objects(
     text: &mut String,
     index: &BirthIndex,
     log: &[Entry],
-    whole: &Whole,
+    whole: &ClusterState,
 ) -> Result<(), AllocError>
     ensures { IsIndexOf index.now log.now → OnOk result
         (string_bytes text.new ≡ string_bytes text.old ++ all_objects_text log.now whole.now) }

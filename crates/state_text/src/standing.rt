@@ -4,11 +4,11 @@ ghost use Rattle.std.specs.Prelude.{◌≡◌, ◌++◌, OnOk, string_bytes};
 ghost use Rattle.state_text.specs.Below.{node_words, worker_count, worker_words};
 
 use ids::{NodeId, WorkerId};
-use protocol_data::Whole;
+use protocol_data::ClusterState;
 use std::alloc::AllocError;
 
 /// How many workers there are, as far as numbers of 32 bits count them.
-pub fn worker_count(whole: &Whole) -> u32
+pub fn worker_count(whole: &ClusterState) -> u32
     ensures { result ≡ worker_count whole.now }
 {
     let count = whole.workers.len();

@@ -4,7 +4,7 @@ ghost use Rattle.std.specs.Prelude.{◌≡◌, MatchOption, None, Some};
 ghost use Rattle.event_log.specs.Events.{from_one};
 ghost use Rattle.state_text.specs.Tasks.{is_pending_at, is_pending_by, is_under_way, number_at, number_by};
 
-use protocol_data::{Maker, Object, Objects, Progress};
+use protocol_data::{Object, ObjectSource, Objects, Progress};
 
 /// The object of that serial, counted from 1; none for any other number.
 #[tactic(auto, using(crate::proofs::Below::item_there, crate::proofs::Below::no_item))]
@@ -21,12 +21,12 @@ fn object_at(objects: &Objects, serial: u64) -> Option<&Object>
     Some(objects.row(place))
 }
 
-fn number_by(maker: &Maker) -> Option<u32>
-    ensures { result ≡ number_by maker.now }
+fn number_by(source: &ObjectSource) -> Option<u32>
+    ensures { result ≡ number_by source.now }
 {
-    match maker {
-        Maker::WasPut | Maker::Beside(_) => None,
-        Maker::ByTask(task) => Some(task.number),
+    match source {
+        ObjectSource::WasPut | ObjectSource::Beside(_) => None,
+        ObjectSource::ByTask(task) => Some(task.number),
     }
 }
 
@@ -36,7 +36,7 @@ pub fn number_at(objects: &Objects, serial: u64) -> Option<u32>
 {
     match object_at(objects, serial) {
         None => None,
-        Some(found) => number_by(&found.maker),
+        Some(found) => number_by(&found.source),
     }
 }
 
@@ -49,12 +49,12 @@ fn is_under_way(progress: Progress) -> bool
     }
 }
 
-fn is_pending_by(maker: &Maker) -> bool
-    ensures { result ≡ is_pending_by maker.now }
+fn is_pending_by(source: &ObjectSource) -> bool
+    ensures { result ≡ is_pending_by source.now }
 {
-    match maker {
-        Maker::WasPut | Maker::Beside(_) => false,
-        Maker::ByTask(task) => is_under_way(task.progress),
+    match source {
+        ObjectSource::WasPut | ObjectSource::Beside(_) => false,
+        ObjectSource::ByTask(task) => is_under_way(task.progress),
     }
 }
 
@@ -64,6 +64,6 @@ pub fn is_pending_at(objects: &Objects, serial: u64) -> bool
 {
     match object_at(objects, serial) {
         None => false,
-        Some(found) => is_pending_by(&found.maker),
+        Some(found) => is_pending_by(&found.source),
     }
 }

@@ -9,7 +9,7 @@ use crate::objects::write_all_objects;
 use crate::workers::write_workers;
 use log_entries::Entry;
 use log_words::BirthIndex;
-use protocol_data::Whole;
+use protocol_data::ClusterState;
 use std::alloc::{AllocError, Global};
 
 /// How many events a log has, refused ones too.
@@ -39,7 +39,7 @@ fn write_state(
     text: &mut String,
     index: &BirthIndex,
     log: &[Entry],
-    whole: &Whole,
+    whole: &ClusterState,
     all: usize,
 ) -> Result<(), AllocError>
     ensures { IsIndexOf index.now log.now → OnOk result (string_bytes text.new ≡ string_bytes text.old ++ state_text log.now whole.now all) }
@@ -56,7 +56,7 @@ fn write_state(
 pub fn state_text(
     alloc: Global,
     log: &[Entry],
-    whole: &Whole,
+    whole: &ClusterState,
     all: usize,
 ) -> Result<String, AllocError>
     ensures { IfOk result (λ text. string_bytes text ≡ state_text log.now whole.now all) }

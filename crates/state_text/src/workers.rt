@@ -12,12 +12,12 @@ use ids::{AttemptId, NodeId, ObjectId, WorkerId};
 use log_entries::Entry;
 use log_text::write_named;
 use log_words::BirthIndex;
-use protocol_data::{Fetching, Holding, Lease, Node, Phase, Run, Whole, Worker};
+use protocol_data::{ClusterState, Execution, Fetching, Holding, Lease, Node, Phase, Worker};
 use std::alloc::AllocError;
 
 /// The node of that number.
 #[tactic(auto, using(crate::proofs::Below::item_there, crate::proofs::Below::no_item))]
-fn node_at(whole: &Whole, node: NodeId) -> Option<&Node>
+fn node_at(whole: &ClusterState, node: NodeId) -> Option<&Node>
     ensures { MatchOption result (node_at whole.now node ≡ None) (λ x. node_at whole.now node ≡ Some x.now) }
 {
     if node.0 == 0 {
@@ -33,7 +33,7 @@ fn is_one(workers: &[WorkerId], worker: WorkerId) -> bool
     workers.iter().any(|w| w.is(worker))
 }
 
-fn has_slot(whole: &Whole, node: NodeId, worker: WorkerId) -> bool
+fn has_slot(whole: &ClusterState, node: NodeId, worker: WorkerId) -> bool
     ensures { result ≡ has_slot worker (node_at whole.now node) }
 {
     match node_at(whole, node) {
@@ -43,7 +43,7 @@ fn has_slot(whole: &Whole, node: NodeId, worker: WorkerId) -> bool
 }
 
 /// Whether the worker is one that the node may give.
-fn is_idle(whole: &Whole, node: NodeId, worker: WorkerId) -> bool
+fn is_idle(whole: &ClusterState, node: NodeId, worker: WorkerId) -> bool
     ensures { result ≡ is_idle worker (node_at whole.now node) }
 {
     match node_at(whole, node) {
@@ -64,7 +64,7 @@ fn lease_in(leases: &[Lease], worker: WorkerId) -> Option<AttemptId>
 }
 
 /// The attempt to which the node gave the worker last.
-fn lease_at(whole: &Whole, node: NodeId, worker: WorkerId) -> Option<AttemptId>
+fn lease_at(whole: &ClusterState, node: NodeId, worker: WorkerId) -> Option<AttemptId>
     ensures { result ≡ lease_at worker (node_at whole.now node) }
 {
     match node_at(whole, node) {
@@ -96,7 +96,7 @@ fn write_standing(
     text: &mut String,
     index: &BirthIndex,
     log: &[Entry],
-    whole: &Whole,
+    whole: &ClusterState,
     worker: WorkerId,
     node: NodeId,
 ) -> Result<(), AllocError>
@@ -123,7 +123,7 @@ fn write_head(
     text: &mut String,
     index: &BirthIndex,
     log: &[Entry],
-    whole: &Whole,
+    whole: &ClusterState,
     worker: WorkerId,
     node: NodeId,
 ) -> Result<(), AllocError>
@@ -181,10 +181,10 @@ fn write_faulted(text: &mut String, is_acknowledged: bool) -> Result<(), AllocEr
 /// Writes what the attempt does next.
 fn write_phase(
     text: &mut String,
-    whole: &Whole,
+    whole: &ClusterState,
     worker: WorkerId,
     node: NodeId,
-    run: &Run,
+    run: &Execution,
 ) -> Result<(), AllocError>
     ensures { OnOk result (string_bytes text.new ≡ string_bytes text.old ++ phase_text whole.now worker node run.now.is_acknowledged run.now.phase) }
 {
@@ -229,10 +229,10 @@ fn write_run(
     text: &mut String,
     index: &BirthIndex,
     log: &[Entry],
-    whole: &Whole,
+    whole: &ClusterState,
     worker: WorkerId,
     node: NodeId,
-    run: &Run,
+    run: &Execution,
 ) -> Result<(), AllocError>
     ensures { IsIndexOf index.now log.now → OnOk result
         (string_bytes text.new ≡ string_bytes text.old ++ run_text log.now whole.now worker node run.now) }
@@ -247,7 +247,7 @@ fn write_run_if_any(
     text: &mut String,
     index: &BirthIndex,
     log: &[Entry],
-    whole: &Whole,
+    whole: &ClusterState,
     worker: WorkerId,
     found: &Worker,
 ) -> Result<(), AllocError>
@@ -264,7 +264,7 @@ fn write_worker(
     text: &mut String,
     index: &BirthIndex,
     log: &[Entry],
-    whole: &Whole,
+    whole: &ClusterState,
     worker: WorkerId,
     found: &Worker,
 ) -> Result<(), AllocError>
@@ -285,7 +285,7 @@ fn write_worker_at(
     text: &mut String,
     index: &BirthIndex,
     log: &[Entry],
-    whole: &Whole,
+    whole: &ClusterState,
     place: u32,
 ) -> Result<(), AllocError>
     requires { place < 4294967295 }
@@ -304,7 +304,7 @@ pub fn write_workers(
     text: &mut String,
     index: &BirthIndex,
     log: &[Entry],
-    whole: &Whole,
+    whole: &ClusterState,
 ) -> Result<(), AllocError>
     ensures { IsIndexOf index.now log.now → OnOk result
         (string_bytes text.new ≡ string_bytes text.old ++ workers_text log.now whole.now) }

@@ -5,7 +5,7 @@ use Rattle.meaning.specs.Meaning.{same_name}
 use Rattle.meaning.specs.Values.{Birth, Id, Name, Put, Task}
 use Rattle.event_log.specs.Entries.{Attempt, Begun, Born, Ended, Entry, Faulted, Resolved}
 use Rattle.event_log.specs.Words.{attempt, births}
-use Rattle.history.specs.Attempts.{state_of}
+use Rattle.report_text.specs.Attempts.{state_of}
 use Rattle.log_words.specs.Tasks.{task_of}
 use Rattle.summary_text.specs.declared.columns.Column.{Column}
 use Rattle.summary_text.specs.declared.columns.Column.TheVariants.{AfterDeaths, AfterLosses, Attempts, Faults, GivenUp, Results, Tasks}
@@ -27,12 +27,12 @@ or_of_task births o None = birth_at births (task_of births o)
 or_of_task births o (Some b) = Some b
 
 -- what makes the object: what was born with it first, else the task of which it is a further result
-abbrev pub maker_of : List Bearing → Id → Option Birth
-maker_of births o = or_of_task births o (birth_at births o)
+abbrev pub source_of : List Bearing → Id → Option Birth
+source_of births o = or_of_task births o (birth_at births o)
 
 -- a task of the function has the object as a result
 abbrev pub is_result_of : List Entry → Name → Id → Bool
-is_result_of log g o = is_of g (maker_of (births log) o)
+is_result_of log g o = is_of g (source_of (births log) o)
 
 -- the report's word for the attempt is `accepted`
 abbrev pub was_accepted : List Entry → Attempt → Bool

@@ -6,31 +6,31 @@ use Rattle.meaning.specs.Values.{Name}
 use Rattle.event_log.specs.Entries.{Deliver, Entry, In}
 use Rattle.event_log.specs.Events.{from_one, refused_next}
 use Rattle.message_text.specs.Messages.{kind_text}
-use Rattle.protocol_data.specs.declared.message.Letter.{Letter}
+use Rattle.protocol_data.specs.declared.message.Envelope.{Envelope}
 
-abbrev pub is_of_kind : Name → Letter → Bool
+abbrev pub is_of_kind : Name → Envelope → Bool
 is_of_kind kind l = same_name (kind_text l.message) kind
 
-abbrev pub sent_count : Name → List Letter → ℕ
+abbrev pub sent_count : Name → List Envelope → ℕ
 sent_count kind [] = 0
 sent_count kind (l ∷ ls) = (if is_of_kind kind l then 1 else 0) + sent_count kind ls
 
-abbrev pub is_kind_at : Name → Option Letter → Bool
+abbrev pub is_kind_at : Name → Option Envelope → Bool
 is_kind_at kind None = false
 is_kind_at kind (Some l) = is_of_kind kind l
 
-abbrev pub delivers : Name → List Letter → Entry → Bool
-delivers kind letters (In (Deliver k) seat) = is_kind_at kind (from_one letters k)
-delivers kind letters _ = false
+abbrev pub delivers : Name → List Envelope → Entry → Bool
+delivers kind envelopes (In (Deliver k) seat) = is_kind_at kind (from_one envelopes k)
+delivers kind envelopes _ = false
 
 -- an event that was refused delivers nothing
-abbrev pub is_delivery : Name → List Letter → Entry → Bool → Bool
-is_delivery kind letters x refused = if refused then false else delivers kind letters x
+abbrev pub is_delivery : Name → List Envelope → Entry → Bool → Bool
+is_delivery kind envelopes x refused = if refused then false else delivers kind envelopes x
 
 -- each time that one is delivered
-abbrev pub deliveries : Name → List Letter → List Entry → ℕ
-deliveries kind letters [] = 0
-deliveries kind letters (x ∷ rest) = (if is_delivery kind letters x (refused_next rest) then 1 else 0) + deliveries kind letters rest
+abbrev pub deliveries : Name → List Envelope → List Entry → ℕ
+deliveries kind envelopes [] = 0
+deliveries kind envelopes (x ∷ rest) = (if is_delivery kind envelopes x (refused_next rest) then 1 else 0) + deliveries kind envelopes rest
 
 -- message Ask: 3 sent, 3 delivered
 unfoldable pub kind_words : Name → ℕ → ℕ → List ℕ
@@ -41,11 +41,11 @@ abbrev pub kind_note : Name → ℕ → ℕ → List ℕ
 kind_note kind sent delivered = if sent == 0 then [] else kind_words kind sent delivered
 
 -- there is no line of a kind of which none was sent
-unfoldable pub kind_line : List Entry → List Letter → Name → List ℕ
-kind_line log letters kind = kind_note kind (sent_count kind letters) (deliveries kind letters log)
+unfoldable pub kind_line : List Entry → List Envelope → Name → List ℕ
+kind_line log envelopes kind = kind_note kind (sent_count kind envelopes) (deliveries kind envelopes log)
 
 -- what asks for workers, and gives work
-abbrev pub lease_kinds : List Entry → List Letter → List ℕ
+abbrev pub lease_kinds : List Entry → List Envelope → List ℕ
 lease_kinds log ls =
     kind_line log ls (codes "Ask")
     ++ (kind_line log ls (codes "Give")
@@ -53,7 +53,7 @@ lease_kinds log ls =
     ++ (kind_line log ls (codes "Wait") ++ (kind_line log ls (codes "Back") ++ kind_line log ls (codes "Push")))))
 
 -- what says how attempts stopped, and where objects are
-abbrev pub end_kinds : List Entry → List Letter → List ℕ
+abbrev pub end_kinds : List Entry → List Envelope → List ℕ
 end_kinds log ls =
     kind_line log ls (codes "Finished")
     ++ (kind_line log ls (codes "FinishedAck")
@@ -61,12 +61,12 @@ end_kinds log ls =
     ++ (kind_line log ls (codes "Where") ++ (kind_line log ls (codes "At") ++ kind_line log ls (codes "Gone")))))
 
 -- what moves copies, and says who holds what
-abbrev pub copy_kinds : List Entry → List Letter → List ℕ
+abbrev pub copy_kinds : List Entry → List Envelope → List ℕ
 copy_kinds log ls =
     kind_line log ls (codes "Fetch")
     ++ (kind_line log ls (codes "Copy")
     ++ (kind_line log ls (codes "Missing")
     ++ (kind_line log ls (codes "Hold") ++ (kind_line log ls (codes "HoldAck") ++ kind_line log ls (codes "Unhold")))))
 
-unfoldable pub messages_text : List Entry → List Letter → List ℕ
+unfoldable pub messages_text : List Entry → List Envelope → List ℕ
 messages_text log ls = lease_kinds log ls ++ (end_kinds log ls ++ copy_kinds log ls)

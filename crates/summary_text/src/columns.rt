@@ -5,15 +5,15 @@ ghost use Rattle.std.specs.Option.{option_map};
 ghost use Rattle.task_spec.specs.Births.{birth_of};
 ghost use Rattle.event_log.specs.Entries.{Entry as Logged};
 ghost use Rattle.event_log.specs.Words.{births};
-ghost use Rattle.history.specs.Attempts.{AreStatesOf};
+ghost use Rattle.report_text.specs.Attempts.{AreStatesOf};
 ghost use Rattle.log_words.specs.Index.{IsIndexOf};
 ghost use Rattle.summary_text.specs.Columns.{begins, begins_after, born_in, column_count, ends, faults, is_born_of, is_counted};
-ghost use Rattle.summary_text.specs.Columns.{is_behind, is_further, is_made_by, is_of, is_result_of, maker_of, resolves, was_accepted};
+ghost use Rattle.summary_text.specs.Columns.{is_behind, is_further, is_made_by, is_of, is_result_of, source_of, resolves, was_accepted};
 
-use history::AttemptStates;
 use ids::{AttemptId, ObjectId};
 use log_entries::Entry;
 use log_words::{BirthIndex, task_of};
+use report_text::AttemptStates;
 use task_spec::Birth;
 
 /// What is counted of a function.
@@ -63,9 +63,9 @@ fn is_made_by(index: &BirthIndex, log: &[Entry], object: ObjectId, function: &st
 }
 
 /// What makes the object: what was born with it first, else the task of which it is a further result.
-fn maker_of<'a>(index: &'a BirthIndex, log: &'a [Entry], object: ObjectId) -> Option<&'a Birth>
+fn source_of<'a>(index: &'a BirthIndex, log: &'a [Entry], object: ObjectId) -> Option<&'a Birth>
     ensures { IsIndexOf index.now log.now →
-        option_map birth_of (option_copied result) ≡ maker_of (births log.now) object }
+        option_map birth_of (option_copied result) ≡ source_of (births log.now) object }
 {
     let Some(birth) = index.birth(log, object) else {
         return index.birth(log, task_of(log, object));
@@ -77,7 +77,7 @@ fn maker_of<'a>(index: &'a BirthIndex, log: &'a [Entry], object: ObjectId) -> Op
 fn is_result_of(index: &BirthIndex, log: &[Entry], object: ObjectId, function: &str) -> bool
     ensures { IsIndexOf index.now log.now → result ≡ is_result_of log.now function.now object }
 {
-    is_of(maker_of(index, log, object), function)
+    is_of(source_of(index, log, object), function)
 }
 
 /// Whether the attempt's owner learned that it ended.

@@ -3,16 +3,16 @@
 ghost use Rattle.std.specs.Prelude.{◌≡◌, ◌<◌, ◌++◌, OnOk, length, string_bytes, take};
 ghost use Rattle.std.specs.List.{list_any};
 ghost use Rattle.task_spec.specs.Births.{birth_of};
-ghost use Rattle.history.specs.Attempts.{AreStatesOf};
+ghost use Rattle.report_text.specs.Attempts.{AreStatesOf};
 ghost use Rattle.log_words.specs.Index.{IsIndexOf};
 ghost use Rattle.summary_text.specs.Columns.{born_in};
 ghost use Rattle.summary_text.specs.Functions.{attempts_words, birth_line, born_line, ends_words, function_at, function_line, functions_text};
 ghost use Rattle.summary_text.specs.Functions.{is_known, others_text, tasks_words};
 
 use crate::columns::{Column, column_count, is_born_of};
-use history::AttemptStates;
 use log_entries::Entry;
 use log_words::BirthIndex;
+use report_text::AttemptStates;
 use std::alloc::AllocError;
 use task_spec::Birth;
 

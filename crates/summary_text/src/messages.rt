@@ -9,22 +9,22 @@ ghost use Rattle.summary_text.specs.Messages.{messages_text, sent_count};
 use log_entries::{Entry, Event};
 use log_words::is_refusal_at;
 use message_text::message_kind;
-use protocol_data::Letter;
+use protocol_data::Envelope;
 use std::alloc::AllocError;
 
-fn is_of_kind(letter: &Letter, kind: &str) -> bool
-    ensures { result ≡ is_of_kind kind.now letter.now }
+fn is_of_kind(envelope: &Envelope, kind: &str) -> bool
+    ensures { result ≡ is_of_kind kind.now envelope.now }
 {
-    message_kind(&letter.message) == kind
+    message_kind(&envelope.message) == kind
 }
 
 /// How many messages of the kind were sent.
-fn sent_count(letters: &[Letter], kind: &str) -> usize
-    ensures { result ≡ sent_count kind.now letters.now }
+fn sent_count(envelopes: &[Envelope], kind: &str) -> usize
+    ensures { result ≡ sent_count kind.now envelopes.now }
 {
     let mut count = 0;
-    for letter in letters {
-        if is_of_kind(letter, kind) {
+    for envelope in envelopes {
+        if is_of_kind(envelope, kind) {
             count += 1;
         }
     }
@@ -33,29 +33,29 @@ fn sent_count(letters: &[Letter], kind: &str) -> usize
 
 /// The message of that number.
 #[tactic(auto, using(crate::proofs::Below::item_there, crate::proofs::Below::no_item))]
-fn letter_at(letters: &[Letter], number: u64) -> Option<&Letter>
-    ensures { MatchOption result (from_one letters.now number ≡ None) (λ x. from_one letters.now number ≡ Some x.now) }
+fn envelope_at(envelopes: &[Envelope], number: u64) -> Option<&Envelope>
+    ensures { MatchOption result (from_one envelopes.now number ≡ None) (λ x. from_one envelopes.now number ≡ Some x.now) }
 {
     if number == 0 {
         return None;
     }
     let place = (number - 1) as usize;
-    letters.get(place)
+    envelopes.get(place)
 }
 
 /// Whether the message of that number is of the kind.
-fn is_kind_at(letters: &[Letter], number: u64, kind: &str) -> bool
-    ensures { result ≡ is_kind_at kind.now (from_one letters.now number) }
+fn is_kind_at(envelopes: &[Envelope], number: u64, kind: &str) -> bool
+    ensures { result ≡ is_kind_at kind.now (from_one envelopes.now number) }
 {
-    match letter_at(letters, number) {
+    match envelope_at(envelopes, number) {
         None => false,
-        Some(letter) => is_of_kind(letter, kind),
+        Some(envelope) => is_of_kind(envelope, kind),
     }
 }
 
 /// Whether the entry is the delivery of a message of the kind.
-fn is_delivery(letters: &[Letter], kind: &str, entry: &Entry, is_refused: bool) -> bool
-    ensures { result ≡ is_delivery kind.now letters.now entry.now is_refused }
+fn is_delivery(envelopes: &[Envelope], kind: &str, entry: &Entry, is_refused: bool) -> bool
+    ensures { result ≡ is_delivery kind.now envelopes.now entry.now is_refused }
 {
     if is_refused {
         return false;
@@ -64,19 +64,19 @@ fn is_delivery(letters: &[Letter], kind: &str, entry: &Entry, is_refused: bool) 
         Entry::In {
             event: Event::Deliver(number),
             ..
-        } => is_kind_at(letters, *number, kind),
+        } => is_kind_at(envelopes, *number, kind),
         _ => false,
     }
 }
 
 /// How many times messages of the kind were delivered.
-fn deliveries(letters: &[Letter], log: &[Entry], kind: &str) -> usize
-    ensures { result ≡ deliveries kind.now letters.now log.now }
+fn deliveries(envelopes: &[Envelope], log: &[Entry], kind: &str) -> usize
+    ensures { result ≡ deliveries kind.now envelopes.now log.now }
 {
     let mut count = 0;
     for (place, entry) in log.iter().enumerate() {
         let is_refused = is_refusal_at(log, place + 1);
-        if is_delivery(letters, kind, entry, is_refused) {
+        if is_delivery(envelopes, kind, entry, is_refused) {
             count += 1;
         }
     }
@@ -114,48 +114,60 @@ fn write_note(
 fn write_kind(
     text: &mut String,
     log: &[Entry],
-    letters: &[Letter],
+    envelopes: &[Envelope],
     kind: &str,
 ) -> Result<(), AllocError>
-    ensures { OnOk result (string_bytes text.new ≡ string_bytes text.old ++ kind_line log.now letters.now kind.now) }
+    ensures { OnOk result (string_bytes text.new ≡ string_bytes text.old ++ kind_line log.now envelopes.now kind.now) }
 {
-    let sent = sent_count(letters, kind);
-    let delivered = deliveries(letters, log, kind);
+    let sent = sent_count(envelopes, kind);
+    let delivered = deliveries(envelopes, log, kind);
     write_note(text, kind, sent, delivered)
 }
 
-fn write_lease_kinds(text: &mut String, log: &[Entry], letters: &[Letter]) -> Result<(), AllocError>
-    ensures { OnOk result (string_bytes text.new ≡ string_bytes text.old ++ lease_kinds log.now letters.now) }
+fn write_lease_kinds(
+    text: &mut String,
+    log: &[Entry],
+    envelopes: &[Envelope],
+) -> Result<(), AllocError>
+    ensures { OnOk result (string_bytes text.new ≡ string_bytes text.old ++ lease_kinds log.now envelopes.now) }
 {
-    write_kind(text, log, letters, "Ask")?;
-    write_kind(text, log, letters, "Give")?;
-    write_kind(text, log, letters, "Elsewhere")?;
-    write_kind(text, log, letters, "Wait")?;
-    write_kind(text, log, letters, "Back")?;
-    write_kind(text, log, letters, "Push")
+    write_kind(text, log, envelopes, "Ask")?;
+    write_kind(text, log, envelopes, "Give")?;
+    write_kind(text, log, envelopes, "Elsewhere")?;
+    write_kind(text, log, envelopes, "Wait")?;
+    write_kind(text, log, envelopes, "Back")?;
+    write_kind(text, log, envelopes, "Push")
 }
 
-fn write_end_kinds(text: &mut String, log: &[Entry], letters: &[Letter]) -> Result<(), AllocError>
-    ensures { OnOk result (string_bytes text.new ≡ string_bytes text.old ++ end_kinds log.now letters.now) }
+fn write_end_kinds(
+    text: &mut String,
+    log: &[Entry],
+    envelopes: &[Envelope],
+) -> Result<(), AllocError>
+    ensures { OnOk result (string_bytes text.new ≡ string_bytes text.old ++ end_kinds log.now envelopes.now) }
 {
-    write_kind(text, log, letters, "Finished")?;
-    write_kind(text, log, letters, "FinishedAck")?;
-    write_kind(text, log, letters, "Failed")?;
-    write_kind(text, log, letters, "Where")?;
-    write_kind(text, log, letters, "At")?;
-    write_kind(text, log, letters, "Gone")?;
+    write_kind(text, log, envelopes, "Finished")?;
+    write_kind(text, log, envelopes, "FinishedAck")?;
+    write_kind(text, log, envelopes, "Failed")?;
+    write_kind(text, log, envelopes, "Where")?;
+    write_kind(text, log, envelopes, "At")?;
+    write_kind(text, log, envelopes, "Gone")?;
     Ok(())
 }
 
-fn write_copy_kinds(text: &mut String, log: &[Entry], letters: &[Letter]) -> Result<(), AllocError>
-    ensures { OnOk result (string_bytes text.new ≡ string_bytes text.old ++ copy_kinds log.now letters.now) }
+fn write_copy_kinds(
+    text: &mut String,
+    log: &[Entry],
+    envelopes: &[Envelope],
+) -> Result<(), AllocError>
+    ensures { OnOk result (string_bytes text.new ≡ string_bytes text.old ++ copy_kinds log.now envelopes.now) }
 {
-    write_kind(text, log, letters, "Fetch")?;
-    write_kind(text, log, letters, "Copy")?;
-    write_kind(text, log, letters, "Missing")?;
-    write_kind(text, log, letters, "Hold")?;
-    write_kind(text, log, letters, "HoldAck")?;
-    write_kind(text, log, letters, "Unhold")
+    write_kind(text, log, envelopes, "Fetch")?;
+    write_kind(text, log, envelopes, "Copy")?;
+    write_kind(text, log, envelopes, "Missing")?;
+    write_kind(text, log, envelopes, "Hold")?;
+    write_kind(text, log, envelopes, "HoldAck")?;
+    write_kind(text, log, envelopes, "Unhold")
 }
 
 /// Writes a line for each kind of messages that were sent.
@@ -163,11 +175,11 @@ fn write_copy_kinds(text: &mut String, log: &[Entry], letters: &[Letter]) -> Res
 pub fn write_messages(
     text: &mut String,
     log: &[Entry],
-    letters: &[Letter],
+    envelopes: &[Envelope],
 ) -> Result<(), AllocError>
-    ensures { OnOk result (string_bytes text.new ≡ string_bytes text.old ++ messages_text log.now letters.now) }
+    ensures { OnOk result (string_bytes text.new ≡ string_bytes text.old ++ messages_text log.now envelopes.now) }
 {
-    write_lease_kinds(text, log, letters)?;
-    write_end_kinds(text, log, letters)?;
-    write_copy_kinds(text, log, letters)
+    write_lease_kinds(text, log, envelopes)?;
+    write_end_kinds(text, log, envelopes)?;
+    write_copy_kinds(text, log, envelopes)
 }

@@ -1,7 +1,7 @@
 // The whole summary of a run, of its log and its messages.
 
 ghost use Rattle.std.specs.Prelude.{◌≡◌, ◌++◌, IfOk, OnOk, string_bytes};
-ghost use Rattle.history.specs.Attempts.{AreStatesOf};
+ghost use Rattle.report_text.specs.Attempts.{AreStatesOf};
 ghost use Rattle.log_words.specs.Index.{IsIndexOf};
 ghost use Rattle.summary_text.specs.Text.{parts_text, summary_text};
 
@@ -9,10 +9,10 @@ use crate::events::write_events;
 use crate::functions::write_functions;
 use crate::messages::write_messages;
 use crate::opened::write_opened;
-use history::AttemptStates;
 use log_entries::Entry;
 use log_words::BirthIndex;
-use protocol_data::Letter;
+use protocol_data::Envelope;
+use report_text::AttemptStates;
 use std::alloc::{AllocError, Global};
 
 fn write_parts(
@@ -20,13 +20,13 @@ fn write_parts(
     index: &BirthIndex,
     states: &AttemptStates,
     log: &[Entry],
-    letters: &[Letter],
+    envelopes: &[Envelope],
 ) -> Result<(), AllocError>
     ensures { IsIndexOf index.now log.now → AreStatesOf states.now log.now → OnOk result
-        (string_bytes text.new ≡ string_bytes text.old ++ parts_text log.now letters.now) }
+        (string_bytes text.new ≡ string_bytes text.old ++ parts_text log.now envelopes.now) }
 {
     write_functions(text, index, states, log)?;
-    write_messages(text, log, letters)?;
+    write_messages(text, log, envelopes)?;
     write_events(text, log)?;
     write_opened(text, log)?;
     Ok(())
@@ -36,12 +36,16 @@ fn write_parts(
 /// which their first tasks were born; for each kind of messages that were sent; for each kind of events that came; and for the workers that were
 /// opened. docs/state.md says what each number counts.
 #[tactic(auto, unfolding(crate::specs::Text::summary_text))]
-pub fn summary_text(alloc: Global, log: &[Entry], letters: &[Letter]) -> Result<String, AllocError>
-    ensures { IfOk result (λ text. string_bytes text ≡ summary_text log.now letters.now) }
+pub fn summary_text(
+    alloc: Global,
+    log: &[Entry],
+    envelopes: &[Envelope],
+) -> Result<String, AllocError>
+    ensures { IfOk result (λ text. string_bytes text ≡ summary_text log.now envelopes.now) }
 {
     let mut text = String::from_str(alloc, "summary\n")?;
     let index = BirthIndex::of(alloc, log)?;
     let states = AttemptStates::of(alloc, log)?;
-    write_parts(&mut text, &index, &states, log, letters)?;
+    write_parts(&mut text, &index, &states, log, envelopes)?;
     Ok(text)
 }

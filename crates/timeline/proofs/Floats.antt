@@ -13,7 +13,7 @@ use Rattle.log_entries.specs.declared.event.Event.{Event}
 use Rattle.log_entries.specs.declared.event.Event.TheVariants as events
 use Rattle.event_log.specs.Entries.{Attempt, Entry}
 use Rattle.event_log.specs.Entries as entries
-use Rattle.history.specs.Texts.{fault_text}
+use Rattle.report_text.specs.Texts.{fault_text}
 use Rattle.log_words.specs.declared.contents.Contents.{Contents}
 use Rattle.log_words.specs.Contents.{content_text, contents_text}
 use Rattle.log_words.specs.Told.{Told, nothing_told}
@@ -23,14 +23,14 @@ use Rattle.timeline.specs.Rows.{runs}
 use Rattle.timeline.specs.Spans.{attempt_spans, running_spans, wait_spans, waits_spans, waiting_spans}
 use Rattle.timeline.specs.Marks.{mark_data, event_marks, entry_marks}
 use Rattle.timeline.specs.Endings.{get_name, both_spans, death_data, event_data, row_data, open_data}
-use Rattle.protocol_data.specs.declared.message.Letter.{Letter}
-use Rattle.protocol_data.specs.declared.message.Party.{Party}
+use Rattle.protocol_data.specs.declared.message.Envelope.{Envelope}
+use Rattle.protocol_data.specs.declared.message.Endpoint.{Endpoint}
 use Rattle.message_text.specs.Sent.{sent_behind}
 use Rattle.timeline.specs.Told.{told_with}
 use Rattle.timeline.specs.Nodes.{greatest_node, names_of, node_names}
-use Rattle.timeline.specs.Parties.{letter_at, receivers, with_senders}
+use Rattle.timeline.specs.Endpoints.{envelope_at, receivers, with_senders}
 use Rattle.timeline.specs.Arrivals.{arrivals_in}
-use Rattle.timeline.specs.Arrows.{short_data, begin_data, letter_end, arrow_ends, arrow_begins, own_letters, short_spans, arrows}
+use Rattle.timeline.specs.Arrows.{short_data, begin_data, envelope_end, arrow_ends, arrow_begins, own_envelopes, short_spans, arrows}
 use Rattle.timeline.specs.Arrows.{event_arrows, entry_arrows, arrival}
 use Rattle.timeline.specs.Entries.{entry_data, rows_after, whole_data, entries_data}
 use Rattle.timeline.specs.Text.{timeline_data}
@@ -117,57 +117,57 @@ entry_plain how births clock rows x refused =
 
 -- ---- messages
 
-shorts_plain : (name : List ℕ) (rows : List Row) (clock : ℕ) (ps : List Party) → ArePlain (map (short_data name rows clock) ps)
+shorts_plain : (name : List ℕ) (rows : List Row) (clock : ℕ) (ps : List Endpoint) → ArePlain (map (short_data name rows clock) ps)
 shorts_plain name rows clock [] = refl
 shorts_plain name rows clock (p ∷ ps) = shorts_plain name rows clock ps
 
-letter_plain : (rows : List Row) (clock m : ℕ) (l : Option Letter) → ArePlain (letter_end rows clock m l)
-letter_plain rows clock m None = refl
-letter_plain rows clock m (Some l) = refl
+envelope_plain : (rows : List Row) (clock m : ℕ) (l : Option Envelope) → ArePlain (envelope_end rows clock m l)
+envelope_plain rows clock m None = refl
+envelope_plain rows clock m (Some l) = refl
 
-ends_plain : (letters : List Letter) (arrivals : List ℕ) (rows : List Row) (clock : ℕ) (e : Event) → ArePlain (arrow_ends letters arrivals rows clock e)
-ends_plain letters arrivals rows clock (events.Deliver m) =
-    chosen (arrival arrivals (m - 1) == clock) (letter_end rows clock m (letter_at letters m)) [] (letter_plain rows clock m (letter_at letters m)) refl
-ends_plain letters arrivals rows clock _ = refl
+ends_plain : (envelopes : List Envelope) (arrivals : List ℕ) (rows : List Row) (clock : ℕ) (e : Event) → ArePlain (arrow_ends envelopes arrivals rows clock e)
+ends_plain envelopes arrivals rows clock (events.Deliver m) =
+    chosen (arrival arrivals (m - 1) == clock) (envelope_end rows clock m (envelope_at envelopes m)) [] (envelope_plain rows clock m (envelope_at envelopes m)) refl
+ends_plain envelopes arrivals rows clock _ = refl
 
-begins_plain : (arrivals : List ℕ) (rows : List Row) (clock k : ℕ) (ls : List Letter) → ArePlain (arrow_begins arrivals rows clock k ls)
+begins_plain : (arrivals : List ℕ) (rows : List Row) (clock k : ℕ) (ls : List Envelope) → ArePlain (arrow_begins arrivals rows clock k ls)
 begins_plain arrivals rows clock k [] = refl
 begins_plain arrivals rows clock k (l ∷ ls) =
     appended (if arrival arrivals k == 0 then [] else begin_data rows clock (k + 1) l ∷ []) (arrow_begins arrivals rows clock (k + 1) ls)
     (chosen (arrival arrivals k == 0) [] (begin_data rows clock (k + 1) l ∷ []) refl refl) (begins_plain arrivals rows clock (k + 1) ls)
 
-event_arrows_plain : (letters : List Letter) (sent arrivals : List ℕ) (rows : List Row) (clock : ℕ) (e : Event) →
-    ArePlain (event_arrows letters sent arrivals rows clock e)
-event_arrows_plain letters sent arrivals rows clock e =
-    let own : List Letter = own_letters letters sent clock in
+event_arrows_plain : (envelopes : List Envelope) (sent arrivals : List ℕ) (rows : List Row) (clock : ℕ) (e : Event) →
+    ArePlain (event_arrows envelopes sent arrivals rows clock e)
+event_arrows_plain envelopes sent arrivals rows clock e =
+    let own : List Envelope = own_envelopes envelopes sent clock in
     let before : ℕ = sent_behind sent (clock - 1) in
-    appended (short_spans letters sent rows clock e) (arrows letters sent arrivals rows clock e)
-    (shorts_plain (event_text e) rows clock (with_senders (receivers letters e) own))
-    (appended (arrow_ends letters arrivals rows clock e) (arrow_begins arrivals rows clock before own)
-    (ends_plain letters arrivals rows clock e) (begins_plain arrivals rows clock before own))
+    appended (short_spans envelopes sent rows clock e) (arrows envelopes sent arrivals rows clock e)
+    (shorts_plain (event_text e) rows clock (with_senders (receivers envelopes e) own))
+    (appended (arrow_ends envelopes arrivals rows clock e) (arrow_begins arrivals rows clock before own)
+    (ends_plain envelopes arrivals rows clock e) (begins_plain arrivals rows clock before own))
 
-entry_arrows_plain : (letters : List Letter) (sent arrivals : List ℕ) (rows : List Row) (clock : ℕ) (x : Entry) (refused : Bool) →
-    ArePlain (entry_arrows letters sent arrivals rows clock x refused)
-entry_arrows_plain letters sent arrivals rows clock (entries.In e seat) refused =
-    chosen refused [] (event_arrows letters sent arrivals rows clock e) refl (event_arrows_plain letters sent arrivals rows clock e)
-entry_arrows_plain letters sent arrivals rows clock _ refused = refl
+entry_arrows_plain : (envelopes : List Envelope) (sent arrivals : List ℕ) (rows : List Row) (clock : ℕ) (x : Entry) (refused : Bool) →
+    ArePlain (entry_arrows envelopes sent arrivals rows clock x refused)
+entry_arrows_plain envelopes sent arrivals rows clock (entries.In e seat) refused =
+    chosen refused [] (event_arrows envelopes sent arrivals rows clock e) refl (event_arrows_plain envelopes sent arrivals rows clock e)
+entry_arrows_plain envelopes sent arrivals rows clock _ refused = refl
 
-whole_plain : (how : Contents) (births : List Bearing) (letters : List Letter) (sent arrivals : List ℕ) (clock : ℕ) (rows : List Row) (x : Entry) (refused : Bool) →
-    ArePlain (whole_data how births letters sent arrivals clock rows x refused)
+whole_plain : (how : Contents) (births : List Bearing) (envelopes : List Envelope) (sent arrivals : List ℕ) (clock : ℕ) (rows : List Row) (x : Entry) (refused : Bool) →
+    ArePlain (whole_data how births envelopes sent arrivals clock rows x refused)
 unfolding whole_data
-whole_plain how births letters sent arrivals clock rows x refused =
-    appended (entry_data how births clock rows x refused) (entry_arrows letters sent arrivals rows clock x refused)
-    (entry_plain how births clock rows x refused) (entry_arrows_plain letters sent arrivals rows clock x refused)
+whole_plain how births envelopes sent arrivals clock rows x refused =
+    appended (entry_data how births clock rows x refused) (entry_arrows envelopes sent arrivals rows clock x refused)
+    (entry_plain how births clock rows x refused) (entry_arrows_plain envelopes sent arrivals rows clock x refused)
 
-entries_plain : (how : Contents) (births : List Bearing) (letters : List Letter) (sent arrivals : List ℕ) (told : Told) (rows : List Row) (log : List Entry) →
-    ArePlain (entries_data how births letters sent arrivals told rows log)
-entries_plain how births letters sent arrivals told rows [] = all_plain (open_data how births told.events) (open_plain how births told.events) rows
-entries_plain how births letters sent arrivals told rows (x ∷ rest) =
+entries_plain : (how : Contents) (births : List Bearing) (envelopes : List Envelope) (sent arrivals : List ℕ) (told : Told) (rows : List Row) (log : List Entry) →
+    ArePlain (entries_data how births envelopes sent arrivals told rows log)
+entries_plain how births envelopes sent arrivals told rows [] = all_plain (open_data how births told.events) (open_plain how births told.events) rows
+entries_plain how births envelopes sent arrivals told rows (x ∷ rest) =
     let now : Told = told_with told x rest in
     let refused : Bool = refused_next rest in
     let next : List Row = rows_after now rows x refused in
-    appended (whole_data how births letters sent arrivals now.events rows x refused) (entries_data how births letters sent arrivals now next rest)
-    (whole_plain how births letters sent arrivals now.events rows x refused) (entries_plain how births letters sent arrivals now next rest)
+    appended (whole_data how births envelopes sent arrivals now.events rows x refused) (entries_data how births envelopes sent arrivals now next rest)
+    (whole_plain how births envelopes sent arrivals now.events rows x refused) (entries_plain how births envelopes sent arrivals now next rest)
 
 names_plain : (n : ℕ) → ArePlain (names_of n)
 names_plain zero = refl
@@ -178,10 +178,10 @@ names_plain (suc n) = appended (names_of n) (node_names (suc n)) (names_plain n)
 beside_nothing : (t : Bool) → t ≡ false → (t || false) ≡ false
 beside_nothing t h = ap (λ b. b || false) h
 
-pub timeline_plain : (how : Contents) (log : List Entry) (letters : List Letter) (sent : List ℕ) → has_float (timeline_data how log letters sent) ≡ false
-timeline_plain how log letters sent =
-    let arrivals : List ℕ = arrivals_in letters sent log in
-    let names : List Data = names_of (greatest_node letters log) in
-    let added : List Data = entries_data how (births log) letters sent arrivals nothing_told [] log in
-    beside_nothing _ (appended names added (names_plain (greatest_node letters log))
-    (entries_plain how (births log) letters sent arrivals nothing_told [] log))
+pub timeline_plain : (how : Contents) (log : List Entry) (envelopes : List Envelope) (sent : List ℕ) → has_float (timeline_data how log envelopes sent) ≡ false
+timeline_plain how log envelopes sent =
+    let arrivals : List ℕ = arrivals_in envelopes sent log in
+    let names : List Data = names_of (greatest_node envelopes log) in
+    let added : List Data = entries_data how (births log) envelopes sent arrivals nothing_told [] log in
+    beside_nothing _ (appended names added (names_plain (greatest_node envelopes log))
+    (entries_plain how (births log) envelopes sent arrivals nothing_told [] log))

@@ -6,7 +6,7 @@ use Rattle.log_entries.specs.declared.event.Event.TheVariants.{Deliver}
 use Rattle.event_log.specs.Entries.{Entry, In}
 use Rattle.log_words.specs.Told.{Told, nothing_told}
 use Rattle.message_text.specs.Sent.{sent_behind}
-use Rattle.protocol_data.specs.declared.message.Letter.{Letter}
+use Rattle.protocol_data.specs.declared.message.Envelope.{Envelope}
 use Rattle.timeline.specs.Told.{told_with}
 
 abbrev pub is_still_none : Option ℕ → Bool
@@ -32,5 +32,5 @@ arrivals_from sent arrivals told (x ∷ rest) =
     arrivals_from sent (arrivals_after sent arrivals (told_with told x rest).events x (refused_next rest)) (told_with told x rest) rest
 
 -- for each message the number of the event; 0 where there is none
-abbrev pub arrivals_in : List Letter → List ℕ → List Entry → List ℕ
-arrivals_in letters sent log = arrivals_from sent (map (λ l. 0) letters) nothing_told log
+abbrev pub arrivals_in : List Envelope → List ℕ → List Entry → List ℕ
+arrivals_in envelopes sent log = arrivals_from sent (map (λ l. 0) envelopes) nothing_told log

@@ -4,7 +4,7 @@ pub mod Marks
 pub mod Endings
 pub mod Nodes
 pub mod Places
-pub mod Parties
+pub mod Endpoints
 pub mod Told
 pub mod Arrivals
 pub mod Arrows

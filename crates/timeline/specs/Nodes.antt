@@ -6,9 +6,9 @@ use Rattle.event_log.specs.Events.{refused_next}
 use Rattle.log_entries.specs.declared.event.Event.{Event}
 use Rattle.log_entries.specs.declared.event.Event.TheVariants.{Lose, KillNode}
 use Rattle.event_log.specs.Entries.{Entry, In, Opened}
-use Rattle.protocol_data.specs.declared.message.Letter.{Letter}
-use Rattle.protocol_data.specs.declared.message.Party.{Party}
-use Rattle.protocol_data.specs.declared.message.Party.TheVariants.{TheWorker, TheNode}
+use Rattle.protocol_data.specs.declared.message.Envelope.{Envelope}
+use Rattle.protocol_data.specs.declared.message.Endpoint.{Endpoint}
+use Rattle.protocol_data.specs.declared.message.Endpoint.TheVariants.{TheWorker, TheNode}
 use Rattle.timeline.specs.Marks.{name_data}
 
 abbrev pub greater : ℕ → ℕ → ℕ
@@ -16,9 +16,9 @@ greater m n = if nat_lt m n then n else m
 
 -- ---- the greatest number of a node
 
-abbrev pub node_in_party : Party → ℕ
-node_in_party (TheWorker w) = 0
-node_in_party (TheNode n) = n
+abbrev pub node_in_endpoint : Endpoint → ℕ
+node_in_endpoint (TheWorker w) = 0
+node_in_endpoint (TheNode n) = n
 
 abbrev pub node_in_event : Event → ℕ
 node_in_event (Lose n o) = n
@@ -35,12 +35,12 @@ abbrev pub greatest_in_log : ℕ → List Entry → ℕ
 greatest_in_log n [] = n
 greatest_in_log n (x ∷ rest) = greatest_in_log (greater n (node_in_entry x (refused_next rest))) rest
 
-abbrev pub greatest_in_letters : ℕ → List Letter → ℕ
-greatest_in_letters n [] = n
-greatest_in_letters n (l ∷ ls) = greatest_in_letters (greater (greater n (node_in_party l.sender)) (node_in_party l.receiver)) ls
+abbrev pub greatest_in_envelopes : ℕ → List Envelope → ℕ
+greatest_in_envelopes n [] = n
+greatest_in_envelopes n (l ∷ ls) = greatest_in_envelopes (greater (greater n (node_in_endpoint l.sender)) (node_in_endpoint l.receiver)) ls
 
-abbrev pub greatest_node : List Letter → List Entry → ℕ
-greatest_node letters log = greatest_in_log (greatest_in_letters 0 letters) log
+abbrev pub greatest_node : List Envelope → List Entry → ℕ
+greatest_node envelopes log = greatest_in_log (greatest_in_envelopes 0 envelopes) log
 
 -- ---- their names
 

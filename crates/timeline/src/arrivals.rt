@@ -7,15 +7,15 @@ ghost use Rattle.timeline.specs.Arrivals.{after_event, arrivals_after, arrivals_
 use log_entries::{Entry, Event};
 use log_words::{Told, is_refusal_at};
 use message_text::sent_behind;
-use protocol_data::Letter;
+use protocol_data::Envelope;
 use std::alloc::{AllocError, Global};
 
 /// None of the messages was delivered.
-fn no_arrivals(alloc: Global, letters: &[Letter]) -> Result<Vec<usize>, AllocError>
-    ensures { IfOk result (λ all. all.items ≡ map (λ l. 0) letters.now) }
+fn no_arrivals(alloc: Global, envelopes: &[Envelope]) -> Result<Vec<usize>, AllocError>
+    ensures { IfOk result (λ all. all.items ≡ map (λ l. 0) envelopes.now) }
 {
     let mut all = Vec::new(alloc);
-    for _letter in letters {
+    for _envelope in envelopes {
         all.push(0)?;
     }
     Ok(all)
@@ -77,12 +77,12 @@ fn note_entry(
 pub fn arrivals_in(
     alloc: Global,
     log: &[Entry],
-    letters: &[Letter],
+    envelopes: &[Envelope],
     sent: &[usize],
 ) -> Result<Vec<usize>, AllocError>
-    ensures { IfOk result (λ all. all.items ≡ arrivals_in letters.now sent.now log.now) }
+    ensures { IfOk result (λ all. all.items ≡ arrivals_in envelopes.now sent.now log.now) }
 {
-    let mut all = no_arrivals(alloc, letters)?;
+    let mut all = no_arrivals(alloc, envelopes)?;
     let mut told = Told::new(alloc);
     for (place, entry) in log.iter().enumerate() {
         let is_refused = is_refusal_at(log, place + 1);

@@ -4,14 +4,14 @@ ghost use Rattle.std.specs.Prelude.{◌≡◌, ◌+◌, ◌++◌, ◌∷◌, ◌
 ghost use Rattle.serde_json.specs.View.{view};
 ghost use Rattle.log_entries.specs.Texts.{event_text};
 ghost use Rattle.timeline.specs.Arrows.{arrival, arrow_begins, arrow_ends, arrows, begin_data, end_data, entry_arrows, event_arrows};
-ghost use Rattle.timeline.specs.Arrows.{own_letters, short_data, short_spans};
+ghost use Rattle.timeline.specs.Arrows.{own_envelopes, short_data, short_spans};
 
-use crate::parties::{letter_at, parties};
+use crate::endpoints::{endpoints, envelope_at};
 use crate::places::{process, thread};
 use crate::rows::Row;
 use log_entries::{Entry, Event};
-use message_text::{letters_between, message_kind, sent_behind};
-use protocol_data::{Letter, Party};
+use message_text::{envelopes_between, message_kind, sent_behind};
+use protocol_data::{Endpoint, Envelope};
 use serde_json::{Value, json};
 use std::alloc::{AllocError, Global};
 
@@ -21,12 +21,12 @@ fn short_json(
     name: &str,
     rows: &[Row],
     clock: usize,
-    party: Party,
+    endpoint: Endpoint,
 ) -> Result<Value, AllocError>
-    ensures { IfOk result (λ v. view v ≡ short_data name.now rows.now clock party) }
+    ensures { IfOk result (λ v. view v ≡ short_data name.now rows.now clock endpoint) }
 {
-    let node = process(rows, party);
-    let row = thread(party);
+    let node = process(rows, endpoint);
+    let row = thread(endpoint);
     let time = clock as u64;
     json!(in alloc; {
         "cat": "event",
@@ -45,13 +45,13 @@ fn begin_json(
     rows: &[Row],
     clock: usize,
     number: u64,
-    letter: &Letter,
+    envelope: &Envelope,
 ) -> Result<Value, AllocError>
-    ensures { IfOk result (λ v. view v ≡ begin_data rows.now clock number letter.now) }
+    ensures { IfOk result (λ v. view v ≡ begin_data rows.now clock number envelope.now) }
 {
-    let kind = message_kind(&letter.message);
-    let node = process(rows, letter.sender);
-    let row = thread(letter.sender);
+    let kind = message_kind(&envelope.message);
+    let node = process(rows, envelope.sender);
+    let row = thread(envelope.sender);
     let time = clock as u64;
     json!(in alloc; {
         "cat": "message",
@@ -70,13 +70,13 @@ fn end_json(
     rows: &[Row],
     clock: usize,
     number: u64,
-    letter: &Letter,
+    envelope: &Envelope,
 ) -> Result<Value, AllocError>
-    ensures { IfOk result (λ v. view v ≡ end_data rows.now clock number letter.now) }
+    ensures { IfOk result (λ v. view v ≡ end_data rows.now clock number envelope.now) }
 {
-    let kind = message_kind(&letter.message);
-    let node = process(rows, letter.receiver);
-    let row = thread(letter.receiver);
+    let kind = message_kind(&envelope.message);
+    let node = process(rows, envelope.receiver);
+    let row = thread(envelope.receiver);
     let time = clock as u64;
     json!(in alloc; {
         "bp": "e",
@@ -104,13 +104,13 @@ fn arrival(arrivals: &[usize], place: usize) -> usize
 fn add_end(
     alloc: Global,
     all: &mut Vec<Value>,
-    letters: &[Letter],
+    envelopes: &[Envelope],
     arrivals: &[usize],
     rows: &[Row],
     clock: usize,
     event: &Event,
 ) -> Result<(), AllocError>
-    ensures { OnOk result (map view all.new.items ≡ map view all.old.items ++ arrow_ends letters.now arrivals.now rows.now clock event.now) }
+    ensures { OnOk result (map view all.new.items ≡ map view all.old.items ++ arrow_ends envelopes.now arrivals.now rows.now clock event.now) }
 {
     let Event::Deliver(message) = event else {
         return Ok(());
@@ -118,10 +118,10 @@ fn add_end(
     if arrival(arrivals, message.saturating_sub(1) as usize) != clock {
         return Ok(());
     }
-    let Some(letter) = letter_at(letters, *message) else {
+    let Some(envelope) = envelope_at(envelopes, *message) else {
         return Ok(());
     };
-    all.push(end_json(alloc, rows, clock, *message, letter)?)?;
+    all.push(end_json(alloc, rows, clock, *message, envelope)?)?;
     Ok(())
 }
 
@@ -133,17 +133,17 @@ fn add_begin(
     rows: &[Row],
     clock: usize,
     place: usize,
-    letter: &Letter,
+    envelope: &Envelope,
 ) -> Result<(), AllocError>
     requires { place + 1 < 2 ^ 64 }
     ensures { OnOk result (map view all.new.items ≡ map view all.old.items
-        ++ (if arrival arrivals.now place == 0 then [] else begin_data rows.now clock (place + 1) letter.now ∷ [])) }
+        ++ (if arrival arrivals.now place == 0 then [] else begin_data rows.now clock (place + 1) envelope.now ∷ [])) }
 {
     if arrival(arrivals, place) == 0 {
         return Ok(());
     }
     let number = (place + 1) as u64;
-    all.push(begin_json(alloc, rows, clock, number, letter)?)?;
+    all.push(begin_json(alloc, rows, clock, number, envelope)?)?;
     Ok(())
 }
 
@@ -155,24 +155,24 @@ fn add_begins(
     rows: &[Row],
     clock: usize,
     before: usize,
-    own: &[Letter],
+    own: &[Envelope],
 ) -> Result<(), AllocError>
     requires { before + length own.now < 2 ^ 64 }
     ensures { OnOk result (map view all.new.items ≡ map view all.old.items ++ arrow_begins arrivals.now rows.now clock before own.now) }
 {
-    for (place, letter) in own.iter().enumerate() {
-        add_begin(alloc, all, arrivals, rows, clock, before + place, letter)?;
+    for (place, envelope) in own.iter().enumerate() {
+        add_begin(alloc, all, arrivals, rows, clock, before + place, envelope)?;
     }
     Ok(())
 }
 
 /// The messages that the event sent.
-fn own_letters<'a>(letters: &'a [Letter], sent: &[usize], clock: usize) -> &'a [Letter]
-    ensures { result.now ≡ own_letters letters.now sent.now clock }
+fn own_envelopes<'a>(envelopes: &'a [Envelope], sent: &[usize], clock: usize) -> &'a [Envelope]
+    ensures { result.now ≡ own_envelopes envelopes.now sent.now clock }
 {
     let from = sent_behind(sent, clock.saturating_sub(1));
     let until = sent_behind(sent, clock);
-    letters_between(letters, from, until)
+    envelopes_between(envelopes, from, until)
 }
 
 fn event_name(alloc: Global, event: &Event) -> Result<String, AllocError>
@@ -187,12 +187,12 @@ fn add_short(
     name: &str,
     rows: &[Row],
     clock: usize,
-    parties: &[Party],
+    endpoints: &[Endpoint],
 ) -> Result<(), AllocError>
-    ensures { OnOk result (map view all.new.items ≡ map view all.old.items ++ map (short_data name.now rows.now clock) parties.now) }
+    ensures { OnOk result (map view all.new.items ≡ map view all.old.items ++ map (short_data name.now rows.now clock) endpoints.now) }
 {
-    for party in parties {
-        all.push(short_json(alloc, name, rows, clock, *party)?)?;
+    for endpoint in endpoints {
+        all.push(short_json(alloc, name, rows, clock, *endpoint)?)?;
     }
     Ok(())
 }
@@ -201,34 +201,34 @@ fn add_short(
 fn add_spans(
     alloc: Global,
     all: &mut Vec<Value>,
-    letters: &[Letter],
+    envelopes: &[Envelope],
     sent: &[usize],
     rows: &[Row],
     clock: usize,
     event: &Event,
 ) -> Result<(), AllocError>
-    ensures { OnOk result (map view all.new.items ≡ map view all.old.items ++ short_spans letters.now sent.now rows.now clock event.now) }
+    ensures { OnOk result (map view all.new.items ≡ map view all.old.items ++ short_spans envelopes.now sent.now rows.now clock event.now) }
 {
-    let own = own_letters(letters, sent, clock);
-    let parties = parties(alloc, letters, event, own)?;
+    let own = own_envelopes(envelopes, sent, clock);
+    let endpoints = endpoints(alloc, envelopes, event, own)?;
     let name = event_name(alloc, event)?;
-    add_short(alloc, all, name.as_str(), rows, clock, &parties)
+    add_short(alloc, all, name.as_str(), rows, clock, &endpoints)
 }
 
 fn add_both_ends(
     alloc: Global,
     all: &mut Vec<Value>,
-    letters: &[Letter],
+    envelopes: &[Envelope],
     sent: &[usize],
     arrivals: &[usize],
     rows: &[Row],
     clock: usize,
     event: &Event,
 ) -> Result<(), AllocError>
-    ensures { OnOk result (map view all.new.items ≡ map view all.old.items ++ arrows letters.now sent.now arrivals.now rows.now clock event.now) }
+    ensures { OnOk result (map view all.new.items ≡ map view all.old.items ++ arrows envelopes.now sent.now arrivals.now rows.now clock event.now) }
 {
-    add_end(alloc, all, letters, arrivals, rows, clock, event)?;
-    let own = own_letters(letters, sent, clock);
+    add_end(alloc, all, envelopes, arrivals, rows, clock, event)?;
+    let own = own_envelopes(envelopes, sent, clock);
     let before = sent_behind(sent, clock.saturating_sub(1));
     add_begins(alloc, all, arrivals, rows, clock, before, own)
 }
@@ -236,7 +236,7 @@ fn add_both_ends(
 fn add_event(
     alloc: Global,
     all: &mut Vec<Value>,
-    letters: &[Letter],
+    envelopes: &[Envelope],
     sent: &[usize],
     arrivals: &[usize],
     rows: &[Row],
@@ -244,17 +244,17 @@ fn add_event(
     event: &Event,
 ) -> Result<(), AllocError>
     ensures { OnOk result (map view all.new.items
-        ≡ map view all.old.items ++ event_arrows letters.now sent.now arrivals.now rows.now clock event.now) }
+        ≡ map view all.old.items ++ event_arrows envelopes.now sent.now arrivals.now rows.now clock event.now) }
 {
-    add_spans(alloc, all, letters, sent, rows, clock, event)?;
-    add_both_ends(alloc, all, letters, sent, arrivals, rows, clock, event)
+    add_spans(alloc, all, envelopes, sent, rows, clock, event)?;
+    add_both_ends(alloc, all, envelopes, sent, arrivals, rows, clock, event)
 }
 
 /// Adds what an entry adds of messages.
 pub fn add_arrows(
     alloc: Global,
     all: &mut Vec<Value>,
-    letters: &[Letter],
+    envelopes: &[Envelope],
     sent: &[usize],
     arrivals: &[usize],
     rows: &[Row],
@@ -263,7 +263,7 @@ pub fn add_arrows(
     is_refused: bool,
 ) -> Result<(), AllocError>
     ensures { OnOk result (map view all.new.items
-        ≡ map view all.old.items ++ entry_arrows letters.now sent.now arrivals.now rows.now clock entry.now is_refused) }
+        ≡ map view all.old.items ++ entry_arrows envelopes.now sent.now arrivals.now rows.now clock entry.now is_refused) }
 {
     let Entry::In { event, .. } = entry else {
         return Ok(());
@@ -271,5 +271,5 @@ pub fn add_arrows(
     if is_refused {
         return Ok(());
     }
-    add_event(alloc, all, letters, sent, arrivals, rows, clock, event)
+    add_event(alloc, all, envelopes, sent, arrivals, rows, clock, event)
 }

@@ -15,7 +15,7 @@ use crate::marks::add_marks;
 use crate::rows::{Row, rows_after};
 use log_entries::Entry;
 use log_words::{BirthIndex, Contents, Told, is_refusal_at};
-use protocol_data::Letter;
+use protocol_data::Envelope;
 use serde_json::Value;
 use std::alloc::{AllocError, Global};
 
@@ -70,7 +70,7 @@ fn add_whole(
     contents: Contents,
     index: &BirthIndex,
     log: &[Entry],
-    letters: &[Letter],
+    envelopes: &[Envelope],
     sent: &[usize],
     arrivals: &[usize],
     clock: usize,
@@ -79,13 +79,13 @@ fn add_whole(
     is_refused: bool,
 ) -> Result<(), AllocError>
     ensures { IsIndexOf index.now log.now → OnOk result (map view all.new.items ≡ map view all.old.items
-        ++ whole_data contents (births log.now) letters.now sent.now arrivals.now clock rows.now entry.now is_refused) }
+        ++ whole_data contents (births log.now) envelopes.now sent.now arrivals.now clock rows.now entry.now is_refused) }
 {
     add_entry(
         alloc, all, contents, index, log, clock, rows, entry, is_refused,
     )?;
     add_arrows(
-        alloc, all, letters, sent, arrivals, rows, clock, entry, is_refused,
+        alloc, all, envelopes, sent, arrivals, rows, clock, entry, is_refused,
     )
 }
 
@@ -113,12 +113,12 @@ pub fn add_entries(
     all: &mut Vec<Value>,
     contents: Contents,
     log: &[Entry],
-    letters: &[Letter],
+    envelopes: &[Envelope],
     sent: &[usize],
     arrivals: &[usize],
 ) -> Result<(), AllocError>
     ensures { OnOk result (map view all.new.items ≡ map view all.old.items
-        ++ entries_data contents (births log.now) letters.now sent.now arrivals.now nothing_told [] log.now) }
+        ++ entries_data contents (births log.now) envelopes.now sent.now arrivals.now nothing_told [] log.now) }
 {
     let index = BirthIndex::of(alloc, log)?;
     let mut told = Told::new(alloc);
@@ -132,7 +132,7 @@ pub fn add_entries(
             contents,
             &index,
             log,
-            letters,
+            envelopes,
             sent,
             arrivals,
             told.events,

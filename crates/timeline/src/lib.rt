@@ -4,10 +4,10 @@
 mod arrivals;
 mod arrows;
 mod endings;
+mod endpoints;
 mod entries;
 mod marks;
 mod nodes;
-mod parties;
 mod places;
 mod rows;
 mod spans;

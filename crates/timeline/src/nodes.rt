@@ -2,13 +2,13 @@
 
 ghost use Rattle.std.specs.Prelude.{◌≡◌, ◌++◌, IfOk, OnOk, drop, map, string_bytes};
 ghost use Rattle.serde_json.specs.View.{view};
-ghost use Rattle.timeline.specs.Nodes.{greater, greatest_in_letters, greatest_in_log, greatest_node, names_of, node_in_entry, node_in_event};
-ghost use Rattle.timeline.specs.Nodes.{node_in_party, node_name, node_names};
+ghost use Rattle.timeline.specs.Nodes.{greater, greatest_in_envelopes, greatest_in_log, greatest_node, names_of, node_in_entry, node_in_event};
+ghost use Rattle.timeline.specs.Nodes.{node_in_endpoint, node_name, node_names};
 
 use crate::marks::name_json;
 use log_entries::{Entry, Event};
 use log_words::is_refusal_at;
-use protocol_data::{Letter, Party};
+use protocol_data::{Endpoint, Envelope};
 use serde_json::Value;
 use std::alloc::{AllocError, Global};
 
@@ -21,12 +21,12 @@ fn greater(one: u32, other: u32) -> u32
     one
 }
 
-fn node_in_party(party: Party) -> u32
-    ensures { result ≡ node_in_party party }
+fn node_in_endpoint(endpoint: Endpoint) -> u32
+    ensures { result ≡ node_in_endpoint endpoint }
 {
-    match party {
-        Party::TheWorker(_) => 0,
-        Party::TheNode(node) => node.0,
+    match endpoint {
+        Endpoint::TheWorker(_) => 0,
+        Endpoint::TheNode(node) => node.0,
     }
 }
 
@@ -54,13 +54,13 @@ fn node_in_entry(entry: &Entry, is_refused: bool) -> u32
     }
 }
 
-fn greatest_in_letters(letters: &[Letter]) -> u32
-    ensures { result ≡ greatest_in_letters 0 letters.now }
+fn greatest_in_envelopes(envelopes: &[Envelope]) -> u32
+    ensures { result ≡ greatest_in_envelopes 0 envelopes.now }
 {
     let mut most = 0;
-    for letter in letters {
-        most = greater(most, node_in_party(letter.sender));
-        most = greater(most, node_in_party(letter.receiver));
+    for envelope in envelopes {
+        most = greater(most, node_in_endpoint(envelope.sender));
+        most = greater(most, node_in_endpoint(envelope.receiver));
     }
     most
 }
@@ -77,10 +77,10 @@ fn greatest_in_log(first: u32, log: &[Entry]) -> u32
 }
 
 /// The greatest number of a node that the log or a message names.
-pub fn greatest_node(log: &[Entry], letters: &[Letter]) -> u32
-    ensures { result ≡ greatest_node letters.now log.now }
+pub fn greatest_node(log: &[Entry], envelopes: &[Envelope]) -> u32
+    ensures { result ≡ greatest_node envelopes.now log.now }
 {
-    greatest_in_log(greatest_in_letters(letters), log)
+    greatest_in_log(greatest_in_envelopes(envelopes), log)
 }
 
 fn node_name(alloc: Global, node: u32) -> Result<String, AllocError>

@@ -4,7 +4,7 @@ ghost use Rattle.std.specs.Prelude.{◌≡◌, drop};
 ghost use Rattle.timeline.specs.Places.{home, process, thread};
 
 use crate::rows::Row;
-use protocol_data::Party;
+use protocol_data::Endpoint;
 
 /// The worker's node, or 0 where it was never opened.
 fn home(rows: &[Row], worker: u32) -> u32
@@ -18,22 +18,22 @@ fn home(rows: &[Row], worker: u32) -> u32
     0
 }
 
-/// The number of the node under which a party's row stands: a worker's own node, or the node itself.
-pub fn process(rows: &[Row], party: Party) -> u32
-    ensures { result ≡ process rows.now party }
+/// The number of the node under which a endpoint's row stands: a worker's own node, or the node itself.
+pub fn process(rows: &[Row], endpoint: Endpoint) -> u32
+    ensures { result ≡ process rows.now endpoint }
 {
-    match party {
-        Party::TheWorker(worker) => home(rows, worker.0),
-        Party::TheNode(node) => node.0,
+    match endpoint {
+        Endpoint::TheWorker(worker) => home(rows, worker.0),
+        Endpoint::TheNode(node) => node.0,
     }
 }
 
 /// A node's own row is 0.
-pub fn thread(party: Party) -> u32
-    ensures { result ≡ thread party }
+pub fn thread(endpoint: Endpoint) -> u32
+    ensures { result ≡ thread endpoint }
 {
-    match party {
-        Party::TheWorker(worker) => worker.0,
-        Party::TheNode(_) => 0,
+    match endpoint {
+        Endpoint::TheWorker(worker) => worker.0,
+        Endpoint::TheNode(_) => 0,
     }
 }

@@ -10,7 +10,7 @@ use crate::entries::add_entries;
 use crate::nodes::{greatest_node, node_names};
 use log_entries::Entry;
 use log_words::Contents;
-use protocol_data::Letter;
+use protocol_data::Envelope;
 use serde_json::{Value, json};
 use std::alloc::{AllocError, Global};
 
@@ -18,14 +18,14 @@ fn trace_values(
     alloc: Global,
     contents: Contents,
     log: &[Entry],
-    letters: &[Letter],
+    envelopes: &[Envelope],
     sent: &[usize],
 ) -> Result<Vec<Value>, AllocError>
-    ensures { IfOk result (λ all. map view all.items ≡ trace_data contents log.now letters.now sent.now) }
+    ensures { IfOk result (λ all. map view all.items ≡ trace_data contents log.now envelopes.now sent.now) }
 {
-    let arrivals = arrivals_in(alloc, log, letters, sent)?;
-    let mut all = node_names(alloc, greatest_node(log, letters))?;
-    add_entries(alloc, &mut all, contents, log, letters, sent, &arrivals)?;
+    let arrivals = arrivals_in(alloc, log, envelopes, sent)?;
+    let mut all = node_names(alloc, greatest_node(log, envelopes))?;
+    add_entries(alloc, &mut all, contents, log, envelopes, sent, &arrivals)?;
     Ok(all)
 }
 
@@ -33,12 +33,12 @@ fn timeline_value(
     alloc: Global,
     contents: Contents,
     log: &[Entry],
-    letters: &[Letter],
+    envelopes: &[Envelope],
     sent: &[usize],
 ) -> Result<Value, AllocError>
-    ensures { IfOk result (λ v. view v ≡ timeline_data contents log.now letters.now sent.now) }
+    ensures { IfOk result (λ v. view v ≡ timeline_data contents log.now envelopes.now sent.now) }
 {
-    let all = Value::Array(trace_values(alloc, contents, log, letters, sent)?);
+    let all = Value::Array(trace_values(alloc, contents, log, envelopes, sent)?);
     json!(in alloc; {"displayTimeUnit": "ms", "traceEvents": all})
 }
 
@@ -46,17 +46,17 @@ fn compact(
     alloc: Global,
     contents: Contents,
     log: &[Entry],
-    letters: &[Letter],
+    envelopes: &[Envelope],
     sent: &[usize],
 ) -> Result<String, AllocError>
-    ensures { IfOk result (λ text. string_bytes text ≡ compact_text (timeline_data contents log.now letters.now sent.now)) }
+    ensures { IfOk result (λ text. string_bytes text ≡ compact_text (timeline_data contents log.now envelopes.now sent.now)) }
 {
-    timeline_value(alloc, contents, log, letters, sent)?.to_string(alloc)
+    timeline_value(alloc, contents, log, envelopes, sent)?.to_string(alloc)
 }
 
 /// A run as Chrome's trace events, for its viewers and others that read them: one object on one line that ends with a line
 /// feed. A process is a node and a thread a worker, or as thread 0 the node itself, each with its name; the clock is the number of the event,
-/// shown as microseconds. `letters` are all messages in the order of their numbers, and `sent` is how many had been sent behind each event.
+/// shown as microseconds. `envelopes` are all messages in the order of their numbers, and `sent` is how many had been sent behind each event.
 ///
 /// A span of the category `attempt` goes from the event in which the owner learned that the worker runs the attempt to its
 /// end, named by its call, with the attempt and how it ended: its content, its fault, `killed` where its worker died, or
@@ -74,12 +74,12 @@ pub fn timeline_json(
     alloc: Global,
     contents: Contents,
     log: &[Entry],
-    letters: &[Letter],
+    envelopes: &[Envelope],
     sent: &[usize],
 ) -> Result<String, AllocError>
-    ensures { IfOk result (λ text. string_bytes text ≡ compact_text (timeline_data contents log.now letters.now sent.now) ++ codes "\n") }
+    ensures { IfOk result (λ text. string_bytes text ≡ compact_text (timeline_data contents log.now envelopes.now sent.now) ++ codes "\n") }
 {
-    let mut text = compact(alloc, contents, log, letters, sent)?;
+    let mut text = compact(alloc, contents, log, envelopes, sent)?;
     text.push_str("\n")?;
     Ok(text)
 }

@@ -7,15 +7,15 @@ use Rattle.event_log.specs.Words.{same_attempt}
 use Rattle.protocol_data.specs.declared.node.AskKey.{AskKey}
 use Rattle.protocol_data.specs.declared.node.Node.{Node}
 use Rattle.protocol_data.specs.declared.tables.Holding.{Holding}
-use Rattle.protocol_data.specs.declared.tables.Run.{Run}
+use Rattle.protocol_data.specs.declared.tables.Execution.{Execution}
 use Rattle.protocol_data.specs.declared.tables.Worker.{Worker}
-use Rattle.protocol_data.specs.declared.whole.Whole.{Whole}
+use Rattle.protocol_data.specs.declared.cluster_state.ClusterState.{ClusterState}
 
 -- workers, nodes and objects by number, from 1 on
-abbrev pub worker_at : Whole → ℕ → Option Worker
+abbrev pub worker_at : ClusterState → ℕ → Option Worker
 worker_at c w = from_one c.workers w
 
-abbrev pub node_at : Whole → ℕ → Option Node
+abbrev pub node_at : ClusterState → ℕ → Option Node
 node_at c n = from_one c.nodes n
 
 abbrev pub is_live : Option Worker → Bool
@@ -34,7 +34,7 @@ abbrev pub holders_of : Option Node → List ℕ
 holders_of None = []
 holders_of (Some x) = x.scheduler.holders
 
-abbrev pub holders_at : Whole → ℕ → List ℕ
+abbrev pub holders_at : ClusterState → ℕ → List ℕ
 holders_at c n = holders_of (node_at c n)
 
 abbrev pub is_ask_of : Attempt → ℕ → AskKey → Bool
@@ -46,16 +46,16 @@ is_queued a t None = false
 is_queued a t (Some x) = list_any (is_ask_of a t) x.scheduler.queue
 
 -- the attempt that the worker runs, or ran last
-abbrev pub run_of : Option Worker → Option Run
+abbrev pub run_of : Option Worker → Option Execution
 run_of None = None
 run_of (Some x) = x.run
 
-abbrev pub is_run_of : Attempt → Option Run → Bool
+abbrev pub is_run_of : Attempt → Option Execution → Bool
 is_run_of a None = false
 is_run_of a (Some r) = same_attempt r.attempt a
 
 -- that attempt is the one
-abbrev pub runs : Whole → ℕ → Attempt → Bool
+abbrev pub runs : ClusterState → ℕ → Attempt → Bool
 runs c w a = is_run_of a (run_of (worker_at c w))
 
 abbrev pub first_hold_in : List Holding → Option Holding
@@ -63,9 +63,9 @@ first_hold_in [] = None
 first_hold_in (h ∷ hs) = Some h
 
 -- the first Hold of a run that no HoldAck has answered
-abbrev pub first_hold_of : Option Run → Option Holding
+abbrev pub first_hold_of : Option Execution → Option Holding
 first_hold_of None = None
 first_hold_of (Some r) = first_hold_in r.holds
 
-abbrev pub first_hold : Whole → ℕ → Option Holding
+abbrev pub first_hold : ClusterState → ℕ → Option Holding
 first_hold c w = first_hold_of (run_of (worker_at c w))

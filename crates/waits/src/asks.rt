@@ -10,9 +10,9 @@ use crate::sent::sent;
 use crate::stops::worker_link;
 use crate::topics::Topic;
 use ids::{AttemptId, NodeId, WorkerId};
-use protocol_data::Whole;
+use protocol_data::ClusterState;
 
-fn unasked_link(whole: &Whole, attempt: AttemptId, number: u32, node: NodeId) -> Link
+fn unasked_link(whole: &ClusterState, attempt: AttemptId, number: u32, node: NodeId) -> Link
     ensures { result ≡ unasked_link whole.now attempt number node }
 {
     if let Some(message) = sent(whole, &Topic::AskFor(attempt, number)) {
@@ -26,7 +26,7 @@ fn unasked_link(whole: &Whole, attempt: AttemptId, number: u32, node: NodeId) ->
 
 /// What keeps the attempt from beginning, for which the ask of that number stands at the node.
 #[tactic(auto, unfolding(crate::specs::Links::ask_link))]
-pub fn ask_link(whole: &Whole, attempt: AttemptId, number: u32, node: NodeId) -> Link
+pub fn ask_link(whole: &ClusterState, attempt: AttemptId, number: u32, node: NodeId) -> Link
     ensures { result ≡ ask_link whole.now attempt number node }
 {
     if let Some(message) = sent(whole, &Topic::ReplyTo(attempt, number)) {
@@ -38,7 +38,7 @@ pub fn ask_link(whole: &Whole, attempt: AttemptId, number: u32, node: NodeId) ->
     Link::NodeUntold(attempt.object.owner, node)
 }
 
-fn started_link(whole: &Whole, attempt: AttemptId, worker: WorkerId) -> Link
+fn started_link(whole: &ClusterState, attempt: AttemptId, worker: WorkerId) -> Link
     ensures { result ≡ started_link whole.now attempt worker (runs whole.now worker attempt) }
 {
     if runs(whole, worker, attempt) {
@@ -52,7 +52,12 @@ fn started_link(whole: &Whole, attempt: AttemptId, worker: WorkerId) -> Link
 
 /// What keeps the attempt from going on, which was begun on the worker of that node.
 #[tactic(auto, unfolding(crate::specs::Links::attempt_link))]
-pub fn attempt_link(whole: &Whole, attempt: AttemptId, worker: WorkerId, node: NodeId) -> Link
+pub fn attempt_link(
+    whole: &ClusterState,
+    attempt: AttemptId,
+    worker: WorkerId,
+    node: NodeId,
+) -> Link
     ensures { result ≡ attempt_link whole.now attempt worker node }
 {
     if is_live(whole, worker) {

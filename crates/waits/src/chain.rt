@@ -10,14 +10,14 @@ use crate::objects::{fetch_link, wait_link};
 use crate::slots::slot_link;
 use crate::stops::worker_link;
 use ids::WorkerId;
-use protocol_data::Whole;
+use protocol_data::ClusterState;
 use std::alloc::{AllocError, Global};
 
 /// A worker has three links at most before the next one's, and a run 1,024 workers.
 const MOST_LINKS: usize = 4096;
 
 /// What keeps that from coming for which the link waits; none behind the last.
-fn next_link(whole: &Whole, link: &Link) -> Option<Link>
+fn next_link(whole: &ClusterState, link: &Link) -> Option<Link>
     ensures { result ≡ next_link whole.now link.now }
 {
     match link {
@@ -40,7 +40,7 @@ fn next_link(whole: &Whole, link: &Link) -> Option<Link>
 #[tactic(auto, using(crate::proofs::Chains::none_more, crate::proofs::Chains::no_more))]
 fn add_links(
     links: &mut Vec<Link>,
-    whole: &Whole,
+    whole: &ClusterState,
     link: Option<Link>,
     most: usize,
 ) -> Result<(), AllocError>
@@ -60,7 +60,7 @@ fn add_links(
 /// For what main waits, and what keeps that from coming, link by link. The last one names the event that would let it go on, or says that
 /// there is none. It is a function of the run's tables and messages, and changes nothing.
 #[tactic(auto, unfolding(crate::specs::Links::links))]
-pub fn links(alloc: Global, whole: &Whole) -> Result<Vec<Link>, AllocError>
+pub fn links(alloc: Global, whole: &ClusterState) -> Result<Vec<Link>, AllocError>
     ensures { IfOk result (λ found. found.items ≡ links whole.now) }
 {
     let mut found = Vec::new(alloc);
@@ -71,7 +71,11 @@ pub fn links(alloc: Global, whole: &Whole) -> Result<Vec<Link>, AllocError>
 
 /// For what the worker's attempt waits, and what keeps that from coming, link by link, as `links` has it of main.
 #[tactic(auto, unfolding(crate::specs::Links::worker_links))]
-pub fn worker_links(alloc: Global, whole: &Whole, worker: WorkerId) -> Result<Vec<Link>, AllocError>
+pub fn worker_links(
+    alloc: Global,
+    whole: &ClusterState,
+    worker: WorkerId,
+) -> Result<Vec<Link>, AllocError>
     ensures { IfOk result (λ found. found.items ≡ worker_links whole.now worker) }
 {
     let mut found = Vec::new(alloc);

@@ -8,11 +8,11 @@ use crate::lookups::{first_hold, is_live};
 use crate::sent::sent;
 use crate::topics::Topic;
 use ids::{AttemptId, ObjectId, WorkerId};
-use protocol_data::Whole;
+use protocol_data::ClusterState;
 
 /// What keeps the owner from knowing how the worker's attempt stopped.
 #[tactic(auto, unfolding(crate::specs::Links::end_link))]
-pub fn end_link(whole: &Whole, worker: WorkerId, attempt: AttemptId) -> Link
+pub fn end_link(whole: &ClusterState, worker: WorkerId, attempt: AttemptId) -> Link
     ensures { result ≡ end_link whole.now worker attempt }
 {
     if let Some(message) = sent(whole, &Topic::EndOf(attempt)) {
@@ -26,7 +26,7 @@ pub fn end_link(whole: &Whole, worker: WorkerId, attempt: AttemptId) -> Link
 
 /// What keeps the worker from knowing that the first object holds the second.
 #[tactic(auto, unfolding(crate::specs::Links::hold_link))]
-pub fn hold_link(whole: &Whole, worker: WorkerId, holder: ObjectId, object: ObjectId) -> Link
+pub fn hold_link(whole: &ClusterState, worker: WorkerId, holder: ObjectId, object: ObjectId) -> Link
     ensures { result ≡ hold_link whole.now worker holder object }
 {
     if let Some(message) = sent(whole, &Topic::HoldAckOf(holder, object)) {

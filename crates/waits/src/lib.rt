@@ -14,4 +14,4 @@ mod topics;
 
 pub use chain::{links, worker_links};
 pub use link::Link;
-pub use lookups::{holders_at, letter_at, node_at, worker_at};
+pub use lookups::{envelope_at, holders_at, node_at, worker_at};

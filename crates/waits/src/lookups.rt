@@ -6,7 +6,7 @@ ghost use Rattle.event_log.specs.Events.{from_one};
 ghost use Rattle.waits.specs.Tables.{first_hold, first_hold_in, holders_at, is_ask_of, is_live, is_live_node, is_one, is_queued, node_at, runs, worker_at};
 
 use ids::{AttemptId, NodeId, WorkerId};
-use protocol_data::{AskKey, Holding, Letter, Node, Object, Objects, Whole, Worker};
+use protocol_data::{AskKey, ClusterState, Envelope, Holding, Node, Object, Objects, Worker};
 use sequence::Seq;
 
 /// The item of that number, counted from 1.
@@ -25,21 +25,21 @@ fn item_at<T>(items: &Seq<T>, number: u64) -> Option<&T>
 }
 
 /// The worker of that number, counted from 1; none where it was never opened.
-pub fn worker_at(whole: &Whole, worker: WorkerId) -> Option<&Worker>
+pub fn worker_at(whole: &ClusterState, worker: WorkerId) -> Option<&Worker>
     ensures { MatchOption result (worker_at whole.now worker ≡ None) (λ x. worker_at whole.now worker ≡ Some x.now) }
 {
     item_at(&whole.workers, u64::from(worker.0))
 }
 
 /// The node of that number, counted from 1; none where it never came.
-pub fn node_at(whole: &Whole, node: NodeId) -> Option<&Node>
+pub fn node_at(whole: &ClusterState, node: NodeId) -> Option<&Node>
     ensures { MatchOption result (node_at whole.now node ≡ None) (λ x. node_at whole.now node ≡ Some x.now) }
 {
     item_at(&whole.nodes, u64::from(node.0))
 }
 
 /// The message of that number.
-pub fn letter_at(whole: &Whole, number: u64) -> Option<&Letter>
+pub fn envelope_at(whole: &ClusterState, number: u64) -> Option<&Envelope>
     ensures { MatchOption result (from_one whole.now.network number ≡ None) (λ x. from_one whole.now.network number ≡ Some x.now) }
 {
     item_at(&whole.network, number)
@@ -61,7 +61,7 @@ pub fn object_at(objects: &Objects, serial: u64) -> Option<&Object>
 }
 
 /// Whether there is a worker of that number, and it lives.
-pub fn is_live(whole: &Whole, worker: WorkerId) -> bool
+pub fn is_live(whole: &ClusterState, worker: WorkerId) -> bool
     ensures { result ≡ is_live (worker_at whole.now worker) }
 {
     match worker_at(whole, worker) {
@@ -71,7 +71,7 @@ pub fn is_live(whole: &Whole, worker: WorkerId) -> bool
 }
 
 /// Whether there is a node of that number, and it lives.
-pub fn is_live_node(whole: &Whole, node: NodeId) -> bool
+pub fn is_live_node(whole: &ClusterState, node: NodeId) -> bool
     ensures { result ≡ is_live_node (node_at whole.now node) }
 {
     match node_at(whole, node) {
@@ -88,7 +88,7 @@ pub fn is_one(workers: &[WorkerId], worker: WorkerId) -> bool
 }
 
 /// Who has a slot of the node.
-pub fn holders_at(whole: &Whole, node: NodeId) -> &[WorkerId]
+pub fn holders_at(whole: &ClusterState, node: NodeId) -> &[WorkerId]
     ensures { result.now ≡ holders_at whole.now node }
 {
     match node_at(whole, node) {
@@ -115,7 +115,7 @@ fn has_ask(queue: &[AskKey], attempt: AttemptId, number: u32) -> bool
 }
 
 /// Whether the ask waits at the node for a slot.
-pub fn is_queued(whole: &Whole, attempt: AttemptId, number: u32, node: NodeId) -> bool
+pub fn is_queued(whole: &ClusterState, attempt: AttemptId, number: u32, node: NodeId) -> bool
     ensures { result ≡ is_queued attempt number (node_at whole.now node) }
 {
     match node_at(whole, node) {
@@ -125,7 +125,7 @@ pub fn is_queued(whole: &Whole, attempt: AttemptId, number: u32, node: NodeId) -
 }
 
 /// Whether the attempt is the one that the worker runs, or ran last.
-pub fn runs(whole: &Whole, worker: WorkerId, attempt: AttemptId) -> bool
+pub fn runs(whole: &ClusterState, worker: WorkerId, attempt: AttemptId) -> bool
     ensures { result ≡ runs whole.now worker attempt }
 {
     let Some(found) = worker_at(whole, worker) else {
@@ -147,7 +147,7 @@ fn first_hold_in(holds: &[Holding]) -> Option<Holding>
 }
 
 /// The first Hold of the worker's attempt that no HoldAck has answered.
-pub fn first_hold(whole: &Whole, worker: WorkerId) -> Option<Holding>
+pub fn first_hold(whole: &ClusterState, worker: WorkerId) -> Option<Holding>
     ensures { result ≡ first_hold whole.now worker }
 {
     let Some(found) = worker_at(whole, worker) else {

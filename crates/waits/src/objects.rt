@@ -1,7 +1,7 @@
 // What keeps an object from coming for which a worker waits.
 
 ghost use Rattle.std.specs.Prelude.{◌≡◌, MatchOption, None, Some};
-ghost use Rattle.waits.specs.Links.{asked_link, asker_link, fetch_link, first_link, foreign_link, made_link, maker_link, object_of, own_link};
+ghost use Rattle.waits.specs.Links.{asked_link, asker_link, fetch_link, first_link, foreign_link, made_link, source_link, object_of, own_link};
 ghost use Rattle.waits.specs.Links.{progress_link, task_link, wait_link};
 ghost use Rattle.waits.specs.Tables.{worker_at};
 
@@ -10,7 +10,7 @@ use crate::lookups::{is_live, is_live_node, is_one, object_at, worker_at};
 use crate::sent::sent;
 use crate::topics::Topic;
 use ids::{AttemptId, NodeId, ObjectId, WorkerId};
-use protocol_data::{Maker, Object, Progress, Whole};
+use protocol_data::{ClusterState, Object, ObjectSource, Progress};
 
 fn progress_link(worker: WorkerId, attempt: AttemptId, progress: Progress) -> Link
     ensures { result ≡ progress_link worker attempt progress }
@@ -23,12 +23,12 @@ fn progress_link(worker: WorkerId, attempt: AttemptId, progress: Progress) -> Li
 }
 
 /// How far its owner is with the task that stands with the object.
-fn task_link(worker: WorkerId, object: ObjectId, maker: &Maker) -> Link
-    ensures { result ≡ task_link worker object maker.now }
+fn task_link(worker: WorkerId, object: ObjectId, source: &ObjectSource) -> Link
+    ensures { result ≡ task_link worker object source.now }
 {
-    match maker {
-        Maker::WasPut | Maker::Beside(_) => Link::Resting(worker),
-        Maker::ByTask(task) => {
+    match source {
+        ObjectSource::WasPut | ObjectSource::Beside(_) => Link::Resting(worker),
+        ObjectSource::ByTask(task) => {
             let attempt = AttemptId {
                 object,
                 number: task.number,
@@ -39,7 +39,7 @@ fn task_link(worker: WorkerId, object: ObjectId, maker: &Maker) -> Link
 }
 
 /// The object, in the table of its owner.
-fn object_of(whole: &Whole, object: ObjectId) -> Option<&Object>
+fn object_of(whole: &ClusterState, object: ObjectId) -> Option<&Object>
     ensures { MatchOption result
         (object_of object (worker_at whole.now object.owner) ≡ None)
         (λ x. object_of object (worker_at whole.now object.owner) ≡ Some x.now) }
@@ -50,22 +50,27 @@ fn object_of(whole: &Whole, object: ObjectId) -> Option<&Object>
     object_at(&owner.objects, object.serial)
 }
 
-fn first_link(whole: &Whole, worker: WorkerId, first: ObjectId) -> Link
+fn first_link(whole: &ClusterState, worker: WorkerId, first: ObjectId) -> Link
     ensures { result ≡ first_link worker first (object_of first (worker_at whole.now first.owner)) }
 {
     match object_of(whole, first) {
         None => Link::Resting(worker),
-        Some(found) => task_link(worker, first, &found.maker),
+        Some(found) => task_link(worker, first, &found.source),
     }
 }
 
 /// How far its owner is with the task that makes it, which may stand with another object.
-fn maker_link(whole: &Whole, worker: WorkerId, object: ObjectId, maker: &Maker) -> Link
-    ensures { result ≡ maker_link whole.now worker object maker.now }
+fn source_link(
+    whole: &ClusterState,
+    worker: WorkerId,
+    object: ObjectId,
+    source: &ObjectSource,
+) -> Link
+    ensures { result ≡ source_link whole.now worker object source.now }
 {
-    match maker {
-        Maker::WasPut | Maker::ByTask(_) => task_link(worker, object, maker),
-        Maker::Beside(serial) => {
+    match source {
+        ObjectSource::WasPut | ObjectSource::ByTask(_) => task_link(worker, object, source),
+        ObjectSource::Beside(serial) => {
             let owner = object.owner;
             let serial = *serial;
             first_link(whole, worker, ObjectId { owner, serial })
@@ -73,17 +78,17 @@ fn maker_link(whole: &Whole, worker: WorkerId, object: ObjectId, maker: &Maker) 
     }
 }
 
-fn made_link(whole: &Whole, worker: WorkerId, object: ObjectId, made: &Object) -> Link
+fn made_link(whole: &ClusterState, worker: WorkerId, object: ObjectId, made: &Object) -> Link
     ensures { result ≡ made_link whole.now worker object made.now }
 {
     if made.is_released {
         return Link::WasReleased(object);
     }
-    maker_link(whole, worker, object, &made.maker)
+    source_link(whole, worker, object, &made.source)
 }
 
 /// A worker that waits for the object, which its owner knows or not.
-fn asker_link(whole: &Whole, worker: WorkerId, object: ObjectId, made: &Object) -> Link
+fn asker_link(whole: &ClusterState, worker: WorkerId, object: ObjectId, made: &Object) -> Link
     ensures { result ≡ foreign_link whole.now worker object (Some made.now) }
 {
     if is_one(made.askers.as_slice(), worker) {
@@ -98,7 +103,7 @@ fn asker_link(whole: &Whole, worker: WorkerId, object: ObjectId, made: &Object) 
     Link::Resting(worker)
 }
 
-fn own_link(whole: &Whole, object: ObjectId) -> Link
+fn own_link(whole: &ClusterState, object: ObjectId) -> Link
     ensures { result ≡ own_link whole.now object.owner object (object_of object (worker_at whole.now object.owner)) }
 {
     match object_of(whole, object) {
@@ -107,7 +112,7 @@ fn own_link(whole: &Whole, object: ObjectId) -> Link
     }
 }
 
-fn foreign_link(whole: &Whole, worker: WorkerId, object: ObjectId) -> Link
+fn foreign_link(whole: &ClusterState, worker: WorkerId, object: ObjectId) -> Link
     ensures { result ≡ foreign_link whole.now worker object (object_of object (worker_at whole.now object.owner)) }
 {
     match object_of(whole, object) {
@@ -117,7 +122,7 @@ fn foreign_link(whole: &Whole, worker: WorkerId, object: ObjectId) -> Link
 }
 
 #[tactic(auto, unfolding(crate::specs::Links::asked_link))]
-fn asked_link(whole: &Whole, worker: WorkerId, object: ObjectId) -> Link
+fn asked_link(whole: &ClusterState, worker: WorkerId, object: ObjectId) -> Link
     ensures { result ≡ asked_link whole.now worker object }
 {
     if object.owner.is(worker) {
@@ -131,7 +136,7 @@ fn asked_link(whole: &Whole, worker: WorkerId, object: ObjectId) -> Link
 
 /// What keeps the object from the worker, which asked the node for a copy.
 #[tactic(auto, unfolding(crate::specs::Links::fetch_link))]
-pub fn fetch_link(whole: &Whole, worker: WorkerId, object: ObjectId, node: NodeId) -> Link
+pub fn fetch_link(whole: &ClusterState, worker: WorkerId, object: ObjectId, node: NodeId) -> Link
     ensures { result ≡ fetch_link whole.now worker object node }
 {
     if let Some(number) = sent(whole, &Topic::AnswerTo(worker, object)) {
@@ -148,7 +153,7 @@ pub fn fetch_link(whole: &Whole, worker: WorkerId, object: ObjectId, node: NodeI
 
 /// What keeps the object from the worker.
 #[tactic(auto, unfolding(crate::specs::Links::wait_link))]
-pub fn wait_link(whole: &Whole, worker: WorkerId, object: ObjectId) -> Link
+pub fn wait_link(whole: &ClusterState, worker: WorkerId, object: ObjectId) -> Link
     ensures { result ≡ wait_link whole.now worker object }
 {
     if let Some(number) = sent(whole, &Topic::AnswerTo(worker, object)) {

@@ -6,25 +6,25 @@ ghost use Rattle.std.specs.Prelude.{option_copied, slice_get};
 ghost use Rattle.waits.specs.Topics.{is_about_it, sent};
 
 use crate::topics::{Topic, is_about};
-use protocol_data::{Letter, Whole};
+use protocol_data::{ClusterState, Envelope};
 
 /// Whether there is such a message, and it is about that.
-fn is_about_at(letters: &[Letter], place: usize, topic: &Topic) -> bool
-    ensures { result ≡ is_about_it topic.now (slice_get letters.now place) }
+fn is_about_at(envelopes: &[Envelope], place: usize, topic: &Topic) -> bool
+    ensures { result ≡ is_about_it topic.now (slice_get envelopes.now place) }
 {
-    match letters.get(place) {
+    match envelopes.get(place) {
         None => false,
-        Some(letter) => is_about(topic, letter),
+        Some(envelope) => is_about(topic, envelope),
     }
 }
 
 /// The number of the first message about that which was not delivered.
-pub fn sent(whole: &Whole, topic: &Topic) -> Option<u64>
+pub fn sent(whole: &ClusterState, topic: &Topic) -> Option<u64>
     ensures { result ≡ sent whole.now topic.now }
 {
-    let letters = whole.network.as_slice();
+    let envelopes = whole.network.as_slice();
     for (place, is_delivered) in whole.delivered.items.iter().enumerate() {
-        if !*is_delivered && is_about_at(letters, place, topic) {
+        if !*is_delivered && is_about_at(envelopes, place, topic) {
             return Some(place as u64 + 1);
         }
     }

@@ -8,9 +8,9 @@ use crate::lookups::{holders_at, worker_at};
 use crate::sent::sent;
 use crate::topics::Topic;
 use ids::{NodeId, WorkerId};
-use protocol_data::{Phase, Whole};
+use protocol_data::{ClusterState, Phase};
 
-fn lent_link(whole: &Whole, worker: WorkerId) -> Option<Link>
+fn lent_link(whole: &ClusterState, worker: WorkerId) -> Option<Link>
     ensures { result ≡ lent_link whole.now worker }
 {
     match sent(whole, &Topic::ForLent(worker)) {
@@ -19,7 +19,7 @@ fn lent_link(whole: &Whole, worker: WorkerId) -> Option<Link>
     }
 }
 
-fn holder_phase_link(whole: &Whole, worker: WorkerId, phase: &Phase) -> Option<Link>
+fn holder_phase_link(whole: &ClusterState, worker: WorkerId, phase: &Phase) -> Option<Link>
     ensures { result ≡ holder_phase_link whole.now worker phase.now }
 {
     match phase {
@@ -31,7 +31,7 @@ fn holder_phase_link(whole: &Whole, worker: WorkerId, phase: &Phase) -> Option<L
 
 /// How a worker that has a slot comes to give it back; none where nothing for which it waits is under way.
 #[tactic(auto, unfolding(crate::specs::Links::holder_link))]
-fn holder_link(whole: &Whole, worker: WorkerId) -> Option<Link>
+fn holder_link(whole: &ClusterState, worker: WorkerId) -> Option<Link>
     ensures { result ≡ holder_link whole.now worker }
 {
     let Some(found) = worker_at(whole, worker) else {
@@ -44,7 +44,7 @@ fn holder_link(whole: &Whole, worker: WorkerId) -> Option<Link>
 }
 
 /// Of the first that comes to it.
-fn first_holder_link(whole: &Whole, holders: &[WorkerId]) -> Option<Link>
+fn first_holder_link(whole: &ClusterState, holders: &[WorkerId]) -> Option<Link>
     ensures { result ≡ first_holder_link whole.now holders.now }
 {
     for worker in holders {
@@ -66,7 +66,7 @@ fn kept_link(worker: WorkerId, holders: &[WorkerId]) -> Link
 
 /// What keeps the node from having a free slot, for the worker or for what it asked there.
 #[tactic(auto, unfolding(crate::specs::Links::slot_link))]
-pub fn slot_link(whole: &Whole, worker: WorkerId, node: NodeId) -> Link
+pub fn slot_link(whole: &ClusterState, worker: WorkerId, node: NodeId) -> Link
     ensures { result ≡ slot_link whole.now worker node }
 {
     let holders = holders_at(whole, node);

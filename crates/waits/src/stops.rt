@@ -6,7 +6,7 @@ ghost use Rattle.waits.specs.Links.{waiting_link, phase_link, run_link, worker_l
 use crate::link::Link;
 use crate::lookups::{holders_at, is_one, worker_at};
 use ids::{AttemptId, NodeId, ObjectId, WorkerId};
-use protocol_data::{Fetching, Phase, Run, Whole};
+use protocol_data::{ClusterState, Execution, Fetching, Phase};
 
 fn waiting_link(
     worker: WorkerId,
@@ -23,7 +23,7 @@ fn waiting_link(
 }
 
 fn phase_link(
-    whole: &Whole,
+    whole: &ClusterState,
     worker: WorkerId,
     node: NodeId,
     attempt: AttemptId,
@@ -45,7 +45,7 @@ fn phase_link(
     }
 }
 
-fn run_link(whole: &Whole, worker: WorkerId, node: NodeId, run: &Option<Run>) -> Link
+fn run_link(whole: &ClusterState, worker: WorkerId, node: NodeId, run: &Option<Execution>) -> Link
     ensures { result ≡ run_link whole.now worker node run.now }
 {
     match run {
@@ -56,7 +56,7 @@ fn run_link(whole: &Whole, worker: WorkerId, node: NodeId, run: &Option<Run>) ->
 
 /// What keeps the worker's attempt from going on.
 #[tactic(auto, unfolding(crate::specs::Links::worker_link))]
-pub fn worker_link(whole: &Whole, worker: WorkerId) -> Link
+pub fn worker_link(whole: &ClusterState, worker: WorkerId) -> Link
     ensures { result ≡ worker_link whole.now worker }
 {
     let Some(found) = worker_at(whole, worker) else {

@@ -5,7 +5,7 @@ ghost use Rattle.waits.specs.Topics.{is_about, is_answer, is_any_node, is_ask_fo
 ghost use Rattle.waits.specs.Topics.{is_hold_of, is_node, is_push_of, is_reply_to, is_worker, seeks};
 
 use ids::{AttemptId, NodeId, ObjectId, WorkerId};
-use protocol_data::{Letter, Message, Party};
+use protocol_data::{Endpoint, Envelope, Message};
 
 /// What a message is about.
 #[derive(Clone, Copy, PartialEq, Eq, Debug)]
@@ -32,30 +32,30 @@ pub enum Topic {
     ForLent(WorkerId),
 }
 
-fn is_worker(party: &Party, worker: WorkerId) -> bool
-    ensures { result ≡ is_worker worker party.now }
+fn is_worker(endpoint: &Endpoint, worker: WorkerId) -> bool
+    ensures { result ≡ is_worker worker endpoint.now }
 {
-    match party {
-        Party::TheWorker(other) => other.is(worker),
-        Party::TheNode(_) => false,
+    match endpoint {
+        Endpoint::TheWorker(other) => other.is(worker),
+        Endpoint::TheNode(_) => false,
     }
 }
 
-fn is_node(party: &Party, node: NodeId) -> bool
-    ensures { result ≡ is_node node party.now }
+fn is_node(endpoint: &Endpoint, node: NodeId) -> bool
+    ensures { result ≡ is_node node endpoint.now }
 {
-    match party {
-        Party::TheWorker(_) => false,
-        Party::TheNode(other) => other.is(node),
+    match endpoint {
+        Endpoint::TheWorker(_) => false,
+        Endpoint::TheNode(other) => other.is(node),
     }
 }
 
-fn is_any_node(party: &Party) -> bool
-    ensures { result ≡ is_any_node party.now }
+fn is_any_node(endpoint: &Endpoint) -> bool
+    ensures { result ≡ is_any_node endpoint.now }
 {
-    match party {
-        Party::TheWorker(_) => false,
-        Party::TheNode(_) => true,
+    match endpoint {
+        Endpoint::TheWorker(_) => false,
+        Endpoint::TheNode(_) => true,
     }
 }
 
@@ -97,15 +97,15 @@ fn is_end_of(message: &Message, attempt: AttemptId) -> bool
     }
 }
 
-fn is_answer(letter: &Letter, worker: WorkerId, object: ObjectId) -> bool
-    ensures { result ≡ is_answer worker object letter.now.sender letter.now.message }
+fn is_answer(envelope: &Envelope, worker: WorkerId, object: ObjectId) -> bool
+    ensures { result ≡ is_answer worker object envelope.now.sender envelope.now.message }
 {
-    match &letter.message {
+    match &envelope.message {
         // To its owner an At says that there is one more copy.
         Message::At(told, _, _, _) => told.is(object) && !object.owner.is(worker),
         Message::Gone(told, _) => told.is(object),
         Message::CopyOf(told, _, _) => told.is(object),
-        Message::Missing(told, _, _) => told.is(object) && is_any_node(&letter.sender),
+        Message::Missing(told, _, _) => told.is(object) && is_any_node(&envelope.sender),
         _ => false,
     }
 }
@@ -147,38 +147,38 @@ fn is_hold_ack_of(message: &Message, holder: ObjectId, object: ObjectId) -> bool
     }
 }
 
-fn is_for_lent(letter: &Letter, worker: WorkerId) -> bool
-    ensures { result ≡ is_for_lent worker letter.now.receiver letter.now.message }
+fn is_for_lent(envelope: &Envelope, worker: WorkerId) -> bool
+    ensures { result ≡ is_for_lent worker envelope.now.receiver envelope.now.message }
 {
-    match &letter.message {
+    match &envelope.message {
         Message::Give(_, _, given) => given.is(worker),
-        Message::Push(_, _) => is_worker(&letter.receiver, worker),
+        Message::Push(_, _) => is_worker(&envelope.receiver, worker),
         _ => false,
     }
 }
 
 /// Whether the message is about that.
-pub fn is_about(topic: &Topic, letter: &Letter) -> bool
-    ensures { result ≡ is_about topic.now letter.now }
+pub fn is_about(topic: &Topic, envelope: &Envelope) -> bool
+    ensures { result ≡ is_about topic.now envelope.now }
 {
     match topic {
-        Topic::AskFor(attempt, number) => is_ask_for(&letter.message, *attempt, *number),
-        Topic::ReplyTo(attempt, number) => is_reply_to(&letter.message, *attempt, *number),
-        Topic::PushOf(attempt) => is_push_of(&letter.message, *attempt),
-        Topic::EndOf(attempt) => is_end_of(&letter.message, *attempt),
+        Topic::AskFor(attempt, number) => is_ask_for(&envelope.message, *attempt, *number),
+        Topic::ReplyTo(attempt, number) => is_reply_to(&envelope.message, *attempt, *number),
+        Topic::PushOf(attempt) => is_push_of(&envelope.message, *attempt),
+        Topic::EndOf(attempt) => is_end_of(&envelope.message, *attempt),
         Topic::AnswerTo(worker, object) => {
-            is_worker(&letter.receiver, *worker) && is_answer(letter, *worker, *object)
+            is_worker(&envelope.receiver, *worker) && is_answer(envelope, *worker, *object)
         }
         Topic::FetchOf(worker, node, object) => {
-            is_worker(&letter.sender, *worker)
-                && is_node(&letter.receiver, *node)
-                && is_fetch_of(&letter.message, *object)
+            is_worker(&envelope.sender, *worker)
+                && is_node(&envelope.receiver, *node)
+                && is_fetch_of(&envelope.message, *object)
         }
         Topic::SoughtBy(worker, object) => {
-            is_worker(&letter.sender, *worker) && seeks(&letter.message, *object)
+            is_worker(&envelope.sender, *worker) && seeks(&envelope.message, *object)
         }
-        Topic::HoldOf(holder, object) => is_hold_of(&letter.message, *holder, *object),
-        Topic::HoldAckOf(holder, object) => is_hold_ack_of(&letter.message, *holder, *object),
-        Topic::ForLent(worker) => is_for_lent(letter, *worker),
+        Topic::HoldOf(holder, object) => is_hold_of(&envelope.message, *holder, *object),
+        Topic::HoldAckOf(holder, object) => is_hold_ack_of(&envelope.message, *holder, *object),
+        Topic::ForLent(worker) => is_for_lent(envelope, *worker),
     }
 }

@@ -7,7 +7,7 @@ use Rattle.meaning.specs.Births.{Bearing, same_id}
 use Rattle.event_log.specs.Entries.{Attempt, FaultKind, OwnerDied, Fault, Kill, KillNode, Entry, In, Born, Ended, Released}
 use Rattle.event_log.specs.Words.{opened, same_attempt}
 use Rattle.event_log.specs.Events.{from_one, refused_next}
-use Rattle.history.specs.Main.{first}
+use Rattle.report_text.specs.Main.{first}
 use Rattle.log_words.specs.Tasks.{objects_made}
 use Rattle.story_text.specs.Mentions.{is_among, is_in_birth}
 use Rattle.why_text.specs.Moments.{Moment, first_moment, moment_after}

@@ -6,7 +6,7 @@ use Rattle.meaning.specs.Values.{Id}
 use Rattle.task_spec.specs.Dereferenced.{dereferenced_in}
 use Rattle.event_log.specs.Entries.{Born, Entry, Faulted}
 use Rattle.event_log.specs.Words.{births}
-use Rattle.history.specs.Main.{first}
+use Rattle.report_text.specs.Main.{first}
 use Rattle.log_words.specs.Tasks.{objects_made, task_of}
 
 -- the object at whose get an attempt that is named by the other ended with a fault that began in z

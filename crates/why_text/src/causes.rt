@@ -4,15 +4,15 @@ ghost use Rattle.std.specs.Prelude.{◌≡◌, ◌++◌, IfOk, OnOk, length, str
 ghost use Rattle.std.specs.Option.{option_map};
 ghost use Rattle.event_log.specs.Entries.{main_attempt};
 ghost use Rattle.event_log.specs.Words.{faulted_in, faults_of};
-ghost use Rattle.history.specs.Main.{first};
+ghost use Rattle.report_text.specs.Main.{first};
 ghost use Rattle.why_text.specs.Text.{cause, cause_by, cause_in, cause_text, causes_text, lack_of, main_lack_text, why_text};
 
 use crate::account::write_account;
 use crate::ways::next_cause;
-use history::main_end::is_main;
 use ids::ObjectId;
 use log_entries::Entry;
 use log_words::{Contents, task_of, write_fault};
+use report_text::main_end::is_main;
 use std::alloc::{AllocError, Global};
 use values::Fault;
 

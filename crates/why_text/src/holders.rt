@@ -5,7 +5,7 @@ ghost use Rattle.std.specs.List.{filter};
 ghost use Rattle.std.specs.Option.{option_map};
 ghost use Rattle.task_spec.specs.Births.{birth_of};
 ghost use Rattle.event_log.specs.Words.{births};
-ghost use Rattle.history.specs.Main.{first};
+ghost use Rattle.report_text.specs.Main.{first};
 ghost use Rattle.log_words.specs.Index.{IsIndexOf};
 ghost use Rattle.log_words.specs.Tasks.{objects_made};
 ghost use Rattle.story_text.specs.Mentions.{is_in_birth};

@@ -8,16 +8,20 @@ use crate::runs_on::break_where;
 use crate::worker_deaths::{add_dead_worker, drop_holds, drop_stop, lose_owner};
 use ids::{NodeId, WorkerId};
 use number_lists::has_node;
-use protocol_data::{Here, Party};
+use protocol_data::{Endpoint, WorkerContext};
 use std::alloc::{AllocError, Global};
 use worker_steps::{collect, knows_dead};
 
 /// What a worker's death ends, and at last what the dead held.
-fn hear_of_worker(alloc: Global, here: &mut Here, worker: WorkerId) -> Result<(), AllocError>
+fn hear_of_worker(
+    alloc: Global,
+    here: &mut WorkerContext,
+    worker: WorkerId,
+) -> Result<(), AllocError>
     ensures { OnOk result (here.new ≡ hears_of_worker here.old worker) }
 {
     add_dead_worker(here, worker)?;
-    break_where(alloc, here, &Party::TheWorker(worker))?;
+    break_where(alloc, here, &Endpoint::TheWorker(worker))?;
     lose_owner(alloc, here, worker)?;
     drop_holds(alloc, here, worker)?;
     drop_stop(here, worker)?;
@@ -25,7 +29,11 @@ fn hear_of_worker(alloc: Global, here: &mut Here, worker: WorkerId) -> Result<()
 }
 
 /// The worker is told that the other is dead. What it knows already changes nothing.
-pub fn notice_step(alloc: Global, here: &mut Here, worker: WorkerId) -> Result<(), AllocError>
+pub fn notice_step(
+    alloc: Global,
+    here: &mut WorkerContext,
+    worker: WorkerId,
+) -> Result<(), AllocError>
     ensures { OnOk result (here.new ≡ notice_step here.old worker) }
 {
     if knows_dead(&here.worker, worker) {
@@ -35,18 +43,22 @@ pub fn notice_step(alloc: Global, here: &mut Here, worker: WorkerId) -> Result<(
 }
 
 /// What a node's death ends.
-fn hear_of_node(alloc: Global, here: &mut Here, node: NodeId) -> Result<(), AllocError>
+fn hear_of_node(alloc: Global, here: &mut WorkerContext, node: NodeId) -> Result<(), AllocError>
     ensures { OnOk result (here.new ≡ hears_of_node here.old node) }
 {
     add_dead_node(here, node)?;
-    break_where(alloc, here, &Party::TheNode(node))?;
+    break_where(alloc, here, &Endpoint::TheNode(node))?;
     lose_places(here, node);
     move_asks(here, node)?;
     lose_fetch(alloc, here, node)
 }
 
 /// The worker is told that the node is dead. What it knows already changes nothing.
-pub fn notice_node_step(alloc: Global, here: &mut Here, node: NodeId) -> Result<(), AllocError>
+pub fn notice_node_step(
+    alloc: Global,
+    here: &mut WorkerContext,
+    node: NodeId,
+) -> Result<(), AllocError>
     ensures { OnOk result (here.new ≡ notice_node_step here.old node) }
 {
     if has_node(&here.worker.dead_nodes, node) {

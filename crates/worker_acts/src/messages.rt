@@ -8,7 +8,7 @@ use owner_steps::{
     elsewhere_reached, failed_reached, finished_reached, given_reached, missing_reached,
     where_reached,
 };
-use protocol_data::{Here, Message, Party};
+use protocol_data::{Endpoint, Message, WorkerContext};
 use std::alloc::{AllocError, Global};
 use worker_steps::{
     at_reached, copy_reached, finished_ack_reached, gone_reached, hold_ack_reached, hold_reached,
@@ -18,7 +18,7 @@ use worker_steps::{
 /// A worker's message reaches the worker.
 fn reached_from_worker(
     alloc: Global,
-    here: &mut Here,
+    here: &mut WorkerContext,
     worker: WorkerId,
     message: &Message,
 ) -> Result<(), AllocError>
@@ -40,7 +40,7 @@ fn reached_from_worker(
             missing_reached(
                 alloc,
                 here,
-                &Party::TheWorker(worker),
+                &Endpoint::TheWorker(worker),
                 *object,
                 *number,
                 *node,
@@ -56,7 +56,7 @@ fn reached_from_worker(
 /// A node's message reaches the worker.
 fn reached_from_node(
     alloc: Global,
-    here: &mut Here,
+    here: &mut WorkerContext,
     node: NodeId,
     message: &Message,
 ) -> Result<(), AllocError>
@@ -71,7 +71,14 @@ fn reached_from_node(
             copy_reached(alloc, here, *object, *number, content)
         }
         Message::Missing(object, number, place) => {
-            missing_reached(alloc, here, &Party::TheNode(node), *object, *number, *place)
+            missing_reached(
+                alloc,
+                here,
+                &Endpoint::TheNode(node),
+                *object,
+                *number,
+                *place,
+            )
         }
         _ => Ok(()),
     }
@@ -80,14 +87,14 @@ fn reached_from_node(
 /// A message reaches the worker; what no rule names is passed over.
 pub fn reached(
     alloc: Global,
-    here: &mut Here,
-    sender: &Party,
+    here: &mut WorkerContext,
+    sender: &Endpoint,
     message: &Message,
 ) -> Result<(), AllocError>
     ensures { OnOk result (here.new ≡ reached here.old sender.now message.now) }
 {
     match sender {
-        Party::TheWorker(worker) => reached_from_worker(alloc, here, *worker, message),
-        Party::TheNode(node) => reached_from_node(alloc, here, *node, message),
+        Endpoint::TheWorker(worker) => reached_from_worker(alloc, here, *worker, message),
+        Endpoint::TheNode(node) => reached_from_node(alloc, here, *node, message),
     }
 }

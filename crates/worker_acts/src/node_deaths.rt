@@ -8,11 +8,11 @@ ghost use Rattle.protocol.specs.Notices.{loses_fetch, loses_places, moves_ask, m
 use ids::{NodeId, ObjectId};
 use number_lists::{object_at_number, remove_node};
 use owner_steps::{ask_next, missing_reached};
-use protocol_data::{Here, Maker, Objects, Party, Phase, Progress};
+use protocol_data::{Endpoint, ObjectSource, Objects, Phase, Progress, WorkerContext};
 use std::alloc::{AllocError, Global};
 
 /// The worker knows that the node is dead.
-pub fn add_dead_node(here: &mut Here, node: NodeId) -> Result<(), AllocError>
+pub fn add_dead_node(here: &mut WorkerContext, node: NodeId) -> Result<(), AllocError>
     ensures { OnOk result (here.new ≡ with_dead_node here.old node) }
 {
     here.worker.dead_nodes.push(node)?;
@@ -32,20 +32,20 @@ fn lose_places_of(objects: &mut Objects, node: NodeId)
 }
 
 /// No copy is known at the node any more.
-pub fn lose_places(here: &mut Here, node: NodeId)
+pub fn lose_places(here: &mut WorkerContext, node: NodeId)
     ensures { here.new ≡ loses_places here.old node }
 {
     lose_places_of(&mut here.worker.objects, node);
 }
 
 /// The ask for that task, if it stands at the node, goes to the next node.
-fn move_ask(here: &mut Here, node: NodeId, serial: u64) -> Result<(), AllocError>
+fn move_ask(here: &mut WorkerContext, node: NodeId, serial: u64) -> Result<(), AllocError>
     ensures { OnOk result (here.new ≡ moves_ask here.old node serial (task_of (own_object here.old serial))) }
 {
     let Some(found) = object_at_number(&here.worker.objects, serial) else {
         return Ok(());
     };
-    let Maker::ByTask(task) = &found.maker else {
+    let ObjectSource::ByTask(task) = &found.source else {
         return Ok(());
     };
     let Progress::AskedAt(t, asked) = &task.progress else {
@@ -62,7 +62,7 @@ fn move_ask(here: &mut Here, node: NodeId, serial: u64) -> Result<(), AllocError
 
 /// The asks that stand at the node go to the next node.
 #[tactic(auto, using(worker_steps::proofs::EachLaws::each_step, worker_steps::proofs::EachLaws::each_last))]
-pub fn move_asks(here: &mut Here, node: NodeId) -> Result<(), AllocError>
+pub fn move_asks(here: &mut WorkerContext, node: NodeId) -> Result<(), AllocError>
     ensures { OnOk result (here.new ≡ moves_asks here.old node) }
 {
     let count = here.worker.objects.len() as u64;
@@ -73,7 +73,7 @@ pub fn move_asks(here: &mut Here, node: NodeId) -> Result<(), AllocError>
 }
 
 /// A Fetch under way to the node finds no copy.
-pub fn lose_fetch(alloc: Global, here: &mut Here, node: NodeId) -> Result<(), AllocError>
+pub fn lose_fetch(alloc: Global, here: &mut WorkerContext, node: NodeId) -> Result<(), AllocError>
     ensures { OnOk result (here.new ≡ loses_fetch here.old node) }
 {
     let Some(run) = &here.worker.run else {
@@ -90,5 +90,5 @@ pub fn lose_fetch(alloc: Global, here: &mut Here, node: NodeId) -> Result<(), Al
         return Ok(());
     }
     let number = fetch.number;
-    missing_reached(alloc, here, &Party::TheNode(node), object, number, node)
+    missing_reached(alloc, here, &Endpoint::TheNode(node), object, number, node)
 }

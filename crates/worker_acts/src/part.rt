@@ -9,7 +9,7 @@ use crate::messages::reached;
 use crate::ticks::tick_step;
 use ids::{NodeId, WorkerId};
 use owner_steps::{claim_step, commit_step};
-use protocol_data::{Here, Message, Outcomes, Party};
+use protocol_data::{Endpoint, Message, Outcomes, WorkerContext};
 use std::alloc::{AllocError, Global};
 use worker_steps::release_all;
 
@@ -21,7 +21,7 @@ pub enum Act {
     /// What was done on its attempt's job is committed.
     Commit(Outcomes),
     /// A message of that sender reaches it.
-    Hear(Party, Message),
+    Hear(Endpoint, Message),
     /// It sends again what it waits for.
     Tick,
     /// It is told that this worker is dead.
@@ -31,7 +31,7 @@ pub enum Act {
 }
 
 /// The worker's step alone.
-fn step(alloc: Global, here: &mut Here, act: &Act) -> Result<(), AllocError>
+fn step(alloc: Global, here: &mut WorkerContext, act: &Act) -> Result<(), AllocError>
     ensures { OnOk result (here.new ≡ act_step act.now here.old) }
 {
     match act {
@@ -48,7 +48,7 @@ fn step(alloc: Global, here: &mut Here, act: &Act) -> Result<(), AllocError>
 }
 
 /// The worker does its step, and then releases what no one can reach any more. After an error nothing is said of its tables.
-pub fn take_part(alloc: Global, here: &mut Here, act: &Act) -> Result<(), AllocError>
+pub fn take_part(alloc: Global, here: &mut WorkerContext, act: &Act) -> Result<(), AllocError>
     ensures { OnOk result (here.new ≡ release_step (act_step act.now here.old)) }
 {
     step(alloc, here, act)?;

@@ -9,7 +9,7 @@ ghost use Rattle.worker_acts.specs.Dead.{runs_on};
 use ids::{NodeId, ObjectId, WorkerId};
 use number_lists::object_at_number;
 use owner_steps::break_attempt;
-use protocol_data::{Here, Maker, Party, Progress};
+use protocol_data::{Endpoint, ObjectSource, Progress, WorkerContext};
 use std::alloc::{AllocError, Global};
 
 /// Whether the present attempt runs on the worker.
@@ -35,23 +35,28 @@ fn runs_on_node(node: NodeId, progress: &Progress) -> bool
 }
 
 /// Whether the death breaks the present attempt.
-fn runs_on(dead: &Party, progress: &Progress) -> bool
+fn runs_on(dead: &Endpoint, progress: &Progress) -> bool
     ensures { result ≡ runs_on dead.now progress.now }
 {
     match dead {
-        Party::TheWorker(worker) => runs_on_worker(*worker, progress),
-        Party::TheNode(node) => runs_on_node(*node, progress),
+        Endpoint::TheWorker(worker) => runs_on_worker(*worker, progress),
+        Endpoint::TheNode(node) => runs_on_node(*node, progress),
     }
 }
 
 /// The present attempt of that task is broken, if it runs there.
-fn break_if(alloc: Global, here: &mut Here, dead: &Party, serial: u64) -> Result<(), AllocError>
+fn break_if(
+    alloc: Global,
+    here: &mut WorkerContext,
+    dead: &Endpoint,
+    serial: u64,
+) -> Result<(), AllocError>
     ensures { OnOk result (here.new ≡ breaks_if (runs_on dead.now) here.old serial (task_of (own_object here.old serial))) }
 {
     let Some(found) = object_at_number(&here.worker.objects, serial) else {
         return Ok(());
     };
-    let Maker::ByTask(task) = &found.maker else {
+    let ObjectSource::ByTask(task) = &found.source else {
         return Ok(());
     };
     if !runs_on(dead, &task.progress) {
@@ -63,7 +68,11 @@ fn break_if(alloc: Global, here: &mut Here, dead: &Party, serial: u64) -> Result
 
 /// The present attempts that run there are broken, in birth order.
 #[tactic(auto, using(worker_steps::proofs::EachLaws::each_step, worker_steps::proofs::EachLaws::each_last))]
-pub fn break_where(alloc: Global, here: &mut Here, dead: &Party) -> Result<(), AllocError>
+pub fn break_where(
+    alloc: Global,
+    here: &mut WorkerContext,
+    dead: &Endpoint,
+) -> Result<(), AllocError>
     ensures { OnOk result (here.new ≡ breaks_where (runs_on dead.now) here.old) }
 {
     let count = here.worker.objects.len() as u64;

@@ -4,24 +4,24 @@ ghost use Rattle.std.specs.Prelude.{◌≡◌, ◌+◌, ◌-◌, OnOk, Some, Non
 ghost use Rattle.protocol.specs.Tables.{task_of};
 ghost use Rattle.protocol.specs.Steps.{own_object};
 ghost use Rattle.protocol.specs.Ticks.{asks_again, sends_holds, sends_run, sends_stop, sends_task, sends_tasks, tick_step};
-ghost use Rattle.protocol_data.specs.declared.tables.Run.{Run};
+ghost use Rattle.protocol_data.specs.declared.tables.Execution.{Execution};
 
 use crate::worker_deaths::is_unheard;
 use ids::{AttemptId, ObjectId};
 use number_lists::object_at_number;
-use protocol_data::{Here, Holding, Maker, Message, Phase, Progress};
+use protocol_data::{Holding, Message, ObjectSource, Phase, Progress, WorkerContext};
 use sequence::Seq;
 use std::alloc::{AllocError, Global};
 use worker_steps::{is_own, say, say_to_node, tell_stop};
 
 /// Of a pending task, its Ask or its Push is sent again.
-fn send_task(alloc: Global, here: &mut Here, serial: u64) -> Result<(), AllocError>
+fn send_task(alloc: Global, here: &mut WorkerContext, serial: u64) -> Result<(), AllocError>
     ensures { OnOk result (here.new ≡ sends_task here.old serial (task_of (own_object here.old serial))) }
 {
     let Some(found) = object_at_number(&here.worker.objects, serial) else {
         return Ok(());
     };
-    let Maker::ByTask(task) = &found.maker else {
+    let ObjectSource::ByTask(task) = &found.source else {
         return Ok(());
     };
     let owner = here.me;
@@ -45,7 +45,7 @@ fn send_task(alloc: Global, here: &mut Here, serial: u64) -> Result<(), AllocErr
 
 /// Of each pending task, in birth order.
 #[tactic(auto, using(worker_steps::proofs::EachLaws::each_step, worker_steps::proofs::EachLaws::each_last))]
-fn send_tasks(alloc: Global, here: &mut Here) -> Result<(), AllocError>
+fn send_tasks(alloc: Global, here: &mut WorkerContext) -> Result<(), AllocError>
     ensures { OnOk result (here.new ≡ sends_tasks here.old) }
 {
     let count = here.worker.objects.len() as u64;
@@ -56,8 +56,8 @@ fn send_tasks(alloc: Global, here: &mut Here) -> Result<(), AllocError>
 }
 
 /// What the own attempt asked for is asked for again.
-fn ask_again(here: &mut Here) -> Result<(), AllocError>
-    ensures { (run : Run) → here.old.worker.run ≡ Some run → OnOk result (here.new ≡ asks_again here.old run.phase) }
+fn ask_again(here: &mut WorkerContext) -> Result<(), AllocError>
+    ensures { (run : Execution) → here.old.worker.run ≡ Some run → OnOk result (here.new ≡ asks_again here.old run.phase) }
 {
     let Some(run) = &here.worker.run else {
         return Ok(());
@@ -78,7 +78,7 @@ fn ask_again(here: &mut Here) -> Result<(), AllocError>
 }
 
 /// The Holds that wait are sent again.
-fn send_holds(here: &mut Here, holds: &Seq<Holding>) -> Result<(), AllocError>
+fn send_holds(here: &mut WorkerContext, holds: &Seq<Holding>) -> Result<(), AllocError>
     ensures { OnOk result (here.new ≡ sends_holds here.old holds.now) }
 {
     for hold in &holds.items {
@@ -90,8 +90,8 @@ fn send_holds(here: &mut Here, holds: &Seq<Holding>) -> Result<(), AllocError>
 }
 
 /// How the attempt stopped is told again, where that wasn't heard.
-fn send_stop(alloc: Global, here: &mut Here) -> Result<(), AllocError>
-    ensures { (run : Run) → here.old.worker.run ≡ Some run → OnOk result (here.new ≡ sends_stop here.old run) }
+fn send_stop(alloc: Global, here: &mut WorkerContext) -> Result<(), AllocError>
+    ensures { (run : Execution) → here.old.worker.run ≡ Some run → OnOk result (here.new ≡ sends_stop here.old run) }
 {
     let Some(run) = &here.worker.run else {
         return Ok(());
@@ -103,8 +103,8 @@ fn send_stop(alloc: Global, here: &mut Here) -> Result<(), AllocError>
 }
 
 /// The own attempt's Holds that wait are sent again.
-fn send_own_holds(alloc: Global, here: &mut Here) -> Result<(), AllocError>
-    ensures { (run : Run) → here.old.worker.run ≡ Some run → OnOk result (here.new ≡ sends_holds here.old run.holds) }
+fn send_own_holds(alloc: Global, here: &mut WorkerContext) -> Result<(), AllocError>
+    ensures { (run : Execution) → here.old.worker.run ≡ Some run → OnOk result (here.new ≡ sends_holds here.old run.holds) }
 {
     let Some(run) = &here.worker.run else {
         return Ok(());
@@ -114,8 +114,8 @@ fn send_own_holds(alloc: Global, here: &mut Here) -> Result<(), AllocError>
 }
 
 /// Of the own attempt, all that it waits for, and how it stopped.
-fn send_own(alloc: Global, here: &mut Here) -> Result<(), AllocError>
-    ensures { (run : Run) → here.old.worker.run ≡ Some run → OnOk result (here.new ≡ sends_run here.old (Some run)) }
+fn send_own(alloc: Global, here: &mut WorkerContext) -> Result<(), AllocError>
+    ensures { (run : Execution) → here.old.worker.run ≡ Some run → OnOk result (here.new ≡ sends_run here.old (Some run)) }
 {
     ask_again(here)?;
     send_own_holds(alloc, here)?;
@@ -123,7 +123,7 @@ fn send_own(alloc: Global, here: &mut Here) -> Result<(), AllocError>
 }
 
 /// The same, if there is one.
-fn send_run(alloc: Global, here: &mut Here) -> Result<(), AllocError>
+fn send_run(alloc: Global, here: &mut WorkerContext) -> Result<(), AllocError>
     ensures { OnOk result (here.new ≡ sends_run here.old here.old.worker.run) }
 {
     match &here.worker.run {
@@ -134,7 +134,7 @@ fn send_run(alloc: Global, here: &mut Here) -> Result<(), AllocError>
 
 /// The worker sends again what it waits for: Asks and Pushes of its tasks, what its own attempt asked for, its Holds, and how its attempt
 /// stopped.
-pub fn tick_step(alloc: Global, here: &mut Here) -> Result<(), AllocError>
+pub fn tick_step(alloc: Global, here: &mut WorkerContext) -> Result<(), AllocError>
     ensures { OnOk result (here.new ≡ tick_step here.old) }
 {
     send_tasks(alloc, here)?;

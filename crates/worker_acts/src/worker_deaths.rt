@@ -4,17 +4,17 @@ ghost use Rattle.std.specs.Prelude.{◌≡◌, ◌&&◌, ◌==◌, ◌++◌, ◌
 ghost use Rattle.std.specs.List.{filter};
 ghost use Rattle.protocol.specs.Steps.{with_run};
 ghost use Rattle.protocol.specs.Notices.{drops_holds, drops_holds_by, drops_stop, is_unheard, loses_owner, with_dead_worker};
-ghost use Rattle.protocol_data.specs.declared.tables.Run.{Run};
+ghost use Rattle.protocol_data.specs.declared.tables.Execution.{Execution};
 
 use ids::WorkerId;
-use protocol_data::{Here, Holding, Phase, Run};
+use protocol_data::{Execution, Holding, Phase, WorkerContext};
 use sequence::Seq;
 use std::alloc::{AllocError, Global};
 use values::{Fault, FaultKind};
 use worker_steps::{fault, leave_if_free, note_heard};
 
 /// The worker knows that the other is dead.
-pub fn add_dead_worker(here: &mut Here, worker: WorkerId) -> Result<(), AllocError>
+pub fn add_dead_worker(here: &mut WorkerContext, worker: WorkerId) -> Result<(), AllocError>
     ensures { OnOk result (here.new ≡ with_dead_worker here.old worker) }
 {
     here.worker.dead_workers.push(worker)?;
@@ -22,7 +22,11 @@ pub fn add_dead_worker(here: &mut Here, worker: WorkerId) -> Result<(), AllocErr
 }
 
 /// The own attempt, if it needs an object of the dead, is answered by a fault.
-pub fn lose_owner(alloc: Global, here: &mut Here, worker: WorkerId) -> Result<(), AllocError>
+pub fn lose_owner(
+    alloc: Global,
+    here: &mut WorkerContext,
+    worker: WorkerId,
+) -> Result<(), AllocError>
     ensures { OnOk result (here.new ≡ loses_owner here.old worker) }
 {
     let Some(run) = &here.worker.run else {
@@ -57,8 +61,12 @@ fn holds_of_others(
 }
 
 /// The own attempt waits for no Hold to the dead.
-fn keep_holds_of_others(alloc: Global, here: &mut Here, worker: WorkerId) -> Result<(), AllocError>
-    ensures { (run : Run) → here.old.worker.run ≡ Some run →
+fn keep_holds_of_others(
+    alloc: Global,
+    here: &mut WorkerContext,
+    worker: WorkerId,
+) -> Result<(), AllocError>
+    ensures { (run : Execution) → here.old.worker.run ≡ Some run →
         OnOk result (here.new ≡ with_run here.old (record run { holds = filter (λ k. not (k.object.owner == worker)) run.holds })) }
 {
     if let Some(run) = &mut here.worker.run {
@@ -70,15 +78,23 @@ fn keep_holds_of_others(alloc: Global, here: &mut Here, worker: WorkerId) -> Res
 }
 
 /// Holds to the dead count as acknowledged, and a stopped attempt that waited for them alone is over.
-fn drop_own_holds(alloc: Global, here: &mut Here, worker: WorkerId) -> Result<(), AllocError>
-    ensures { (run : Run) → here.old.worker.run ≡ Some run → OnOk result (here.new ≡ drops_holds_by here.old worker (Some run)) }
+fn drop_own_holds(
+    alloc: Global,
+    here: &mut WorkerContext,
+    worker: WorkerId,
+) -> Result<(), AllocError>
+    ensures { (run : Execution) → here.old.worker.run ≡ Some run → OnOk result (here.new ≡ drops_holds_by here.old worker (Some run)) }
 {
     keep_holds_of_others(alloc, here, worker)?;
     leave_if_free(alloc, here)
 }
 
 /// Holds to the dead count as acknowledged.
-pub fn drop_holds(alloc: Global, here: &mut Here, worker: WorkerId) -> Result<(), AllocError>
+pub fn drop_holds(
+    alloc: Global,
+    here: &mut WorkerContext,
+    worker: WorkerId,
+) -> Result<(), AllocError>
     ensures { OnOk result (here.new ≡ drops_holds here.old worker) }
 {
     match &here.worker.run {
@@ -88,14 +104,14 @@ pub fn drop_holds(alloc: Global, here: &mut Here, worker: WorkerId) -> Result<()
 }
 
 /// Whether the attempt is over and its owner hasn't heard of it.
-pub fn is_unheard(run: &Run) -> bool
+pub fn is_unheard(run: &Execution) -> bool
     ensures { result ≡ is_unheard run.now }
 {
     run.is_over && !run.is_acknowledged
 }
 
 /// The end of an attempt of the dead counts as heard.
-pub fn drop_stop(here: &mut Here, worker: WorkerId) -> Result<(), AllocError>
+pub fn drop_stop(here: &mut WorkerContext, worker: WorkerId) -> Result<(), AllocError>
     ensures { OnOk result (here.new ≡ drops_stop here.old worker) }
 {
     let Some(run) = &here.worker.run else {

@@ -5,8 +5,8 @@ use Rattle.event_log.specs.Words.{same_attempt}
 use Rattle.protocol_data.specs.Unneeded.{AllStay, is_awaited, is_borne_by, stays}
 use Rattle.protocol.specs.Numbered.{item_at}
 use Rattle.protocol.specs.Releases.{are_unneeded, going_with, is_unneeded_at, may_release, releases_by}
-use Rattle.protocol.specs.Steps.{Here, each_from, own_id, own_object}
-use Rattle.protocol.specs.Tables.{AskedAt, AtRest, Beside, ByTask, Maker, Object, Run, RunsOn, WasPut, Worker, is_bearer_over, is_going_on, is_held, is_pending_by, is_under_way, Progress, task_in}
+use Rattle.protocol.specs.Steps.{WorkerContext, each_from, own_id, own_object}
+use Rattle.protocol.specs.Tables.{AskedAt, AtRest, Beside, ByTask, ObjectSource, Object, Execution, RunsOn, WasPut, Worker, is_bearer_over, is_going_on, is_held, is_pending_by, is_under_way, Progress, task_in}
 use Rattle.meaning.specs.Values.{others_of}
 use Rattle.protocol_data.specs.Unneeded.{is_under_way as is_on_its_way}
 use Rattle.worker_steps.proofs.EachLaws.{each_step}
@@ -18,12 +18,12 @@ on_its_way AtRest = refl
 on_its_way (AskedAt t n) = refl
 on_its_way (RunsOn w n) = refl
 
-awaited : (m : Maker) → is_awaited m ≡ is_pending_by (task_in m)
+awaited : (m : ObjectSource) → is_awaited m ≡ is_pending_by (task_in m)
 awaited WasPut = refl
 awaited (ByTask task) = on_its_way task.progress
 awaited (Beside k) = refl
 
-borne_goes_on : (run : Option Run) (x : Object) → is_borne_by (attempt_going_on run) x ≡ true → not (is_going_on run x.bearer) ≡ false
+borne_goes_on : (run : Option Execution) (x : Object) → is_borne_by (attempt_going_on run) x ≡ true → not (is_going_on run x.bearer) ≡ false
 borne_goes_on None x h = absurd cc
 borne_goes_on (Some run) x h = either run.is_over h
   where
@@ -45,36 +45,36 @@ none_of true true true true true borne rest h g = absurd (differ (sym (g h)))
 
 -- an object whose row says that it is needed isn't released, whatever goes with it
 row_stays : (w : Worker) (k n : ℕ) (x : Object) → item_at w.objects k ≡ Some x → stays (attempt_going_on w.run) x ≡ true →
-    (not (is_pending_by (task_in x.maker)) && is_bearer_over w x && are_unneeded w.objects k (suc n)) ≡ false
+    (not (is_pending_by (task_in x.source)) && is_bearer_over w x && are_unneeded w.objects k (suc n)) ≡ false
 row_stays w k n x there h =
-    ap (λ o. not (is_pending_by (task_in x.maker)) && is_bearer_over w x && (is_unneeded_at o && are_unneeded w.objects (k + 1) n)) there
-    ∙ none_of (not x.is_released) (is_some x.settled || is_some x.fault) (not (is_pending_by (task_in x.maker))) (is_bearer_over w x) (not (is_held x))
+    ap (λ o. not (is_pending_by (task_in x.source)) && is_bearer_over w x && (is_unneeded_at o && are_unneeded w.objects (k + 1) n)) there
+    ∙ none_of (not x.is_released) (is_some x.settled || is_some x.fault) (not (is_pending_by (task_in x.source))) (is_bearer_over w x) (not (is_held x))
     (is_borne_by (attempt_going_on w.run) x) (are_unneeded w.objects (k + 1) n)
-    (ap (λ b. not (not x.is_released && (is_some x.settled || is_some x.fault) && not b && not (is_held x)) || is_borne_by (attempt_going_on w.run) x) (sym (awaited x.maker)) ∙ h)
+    (ap (λ b. not (not x.is_released && (is_some x.settled || is_some x.fault) && not b && not (is_held x)) || is_borne_by (attempt_going_on w.run) x) (sym (awaited x.source)) ∙ h)
     (borne_goes_on w.run x)
 
-by_maker : (w : Worker) (i : ℕ) (x : Object) (m : Maker) → x.maker ≡ m → slice_get w.objects i ≡ Some x → stays (attempt_going_on w.run) x ≡ true →
-    (may_release w (suc i) x ≡ false) ⊎ (going_with x.maker ≡ 0)
-by_maker w i x WasPut e there h =
-    inl (ap (λ m. not (is_pending_by (task_in x.maker)) && is_bearer_over w x && are_unneeded w.objects (suc i) (going_with m)) e ∙ row_stays w (suc i) 0 x there h)
-by_maker w i x (ByTask task) e there h =
-    inl (ap (λ m. not (is_pending_by (task_in x.maker)) && is_bearer_over w x && are_unneeded w.objects (suc i) (going_with m)) e
+by_source : (w : Worker) (i : ℕ) (x : Object) (m : ObjectSource) → x.source ≡ m → slice_get w.objects i ≡ Some x → stays (attempt_going_on w.run) x ≡ true →
+    (may_release w (suc i) x ≡ false) ⊎ (going_with x.source ≡ 0)
+by_source w i x WasPut e there h =
+    inl (ap (λ m. not (is_pending_by (task_in x.source)) && is_bearer_over w x && are_unneeded w.objects (suc i) (going_with m)) e ∙ row_stays w (suc i) 0 x there h)
+by_source w i x (ByTask task) e there h =
+    inl (ap (λ m. not (is_pending_by (task_in x.source)) && is_bearer_over w x && are_unneeded w.objects (suc i) (going_with m)) e
     ∙ row_stays w (suc i) (others_of task.spec) x there h)
-by_maker w i x (Beside k) e there h = inr (ap going_with e)
+by_source w i x (Beside k) e there h = inr (ap going_with e)
 
 pub staying : (w : Worker) (i : ℕ) (x : Object) → slice_get w.objects i ≡ Some x → stays (attempt_going_on w.run) x ≡ true →
-    (may_release w (suc i) x ≡ false) ⊎ (going_with x.maker ≡ 0)
-staying w i x there h = by_maker w i x x.maker refl there h
+    (may_release w (suc i) x ≡ false) ⊎ (going_with x.source ≡ 0)
+staying w i x there h = by_source w i x x.source refl there h
 
 pub none_goes : (w : Worker) (from to : ℕ) → AllStay w.objects from to (attempt_going_on w.run) → NoneGoes w from to
 none_goes w from to p i x low less e = staying w i x e (p i x low less e)
 
 -- ---- a way through the objects
 
-abbrev release_at : Here → ℕ → Here
+abbrev release_at : WorkerContext → ℕ → WorkerContext
 release_at g k = releases_by g k (own_object g k)
 
-none_here : (h : Here) (p : ℕ) → ((x : Object) → slice_get h.worker.objects p ≡ Some x → (may_release h.worker (suc p) x ≡ false) ⊎ (going_with x.maker ≡ 0)) →
+none_here : (h : WorkerContext) (p : ℕ) → ((x : Object) → slice_get h.worker.objects p ≡ Some x → (may_release h.worker (suc p) x ≡ false) ⊎ (going_with x.source ≡ 0)) →
     release_at h (p + 1) ≡ h
 none_here h p g =
     let s : p + 1 ≡ suc p = omega arith in
@@ -84,7 +84,7 @@ none_here h p g =
     by_row None e = ap (releases_by h (suc p)) e
     by_row (Some x) e = elim (g x e) [ inl stays ↦ stays_held h (suc p) x e stays | inr none ↦ none_released h (suc p) x e none ]
 
-nothing_left : (h : Here) (k n : ℕ) → n ≡ 0 → each_from (λ g k. releases_by g k (own_object g k)) h k n ≡ h
+nothing_left : (h : WorkerContext) (k n : ℕ) → n ≡ 0 → each_from (λ g k. releases_by g k (own_object g k)) h k n ≡ h
 nothing_left h k n e = ap (λ m. each_from release_at h k m) e
 
 split : (i k : ℕ) → (i < k) ⊎ (k ≤ i)
@@ -92,7 +92,7 @@ split i zero = inr (omega arith)
 split zero (suc k) = inl (omega arith)
 split (suc i) (suc k) = elim (split i k) [ inl m ↦ inl (omega (arith, m)) | inr m ↦ inr (omega (arith, m)) ]
 
-skipped : (h : Here) (n p d : ℕ) → NoneGoes h.worker p (p + d) → each_from release_at h (p + 1) (n - p) ≡ each_from release_at h (p + d + 1) (n - (p + d))
+skipped : (h : WorkerContext) (n p d : ℕ) → NoneGoes h.worker p (p + d) → each_from release_at h (p + 1) (n - p) ≡ each_from release_at h (p + d + 1) (n - (p + d))
 skipped h n p zero quiet = let e : p + 0 ≡ p = omega arith in ap (λ q. each_from release_at h (q + 1) (n - q)) (sym e)
 skipped h n p (suc d) quiet =
     elim (split p n) [
@@ -108,21 +108,21 @@ skipped h n p (suc d) quiet =
     moved = omega arith
 
 -- what is passed over isn't released
-pub passed_over : (h : Here) (n p q : ℕ) → p ≤ q → NoneGoes h.worker p q →
+pub passed_over : (h : WorkerContext) (n p q : ℕ) → p ≤ q → NoneGoes h.worker p q →
     each_from (λ g k. releases_by g k (own_object g k)) h (p + 1) (n - p) ≡ each_from (λ g k. releases_by g k (own_object g k)) h (q + 1) (n - q)
 passed_over h n p q le quiet =
     let e : p + (q - p) ≡ q = omega (arith, le) in
     skipped h n p (q - p) (λ i x low under s. quiet i x low (omega (arith, under, le)) s) ∙ ap (λ r. each_from release_at h (r + 1) (n - r)) e
 
 -- so behind the last one
-pub passed_all : (h : Here) (n p q : ℕ) → p ≤ q → n ≤ q → NoneGoes h.worker p q → each_from (λ g k. releases_by g k (own_object g k)) h (p + 1) (n - p) ≡ h
+pub passed_all : (h : WorkerContext) (n p q : ℕ) → p ≤ q → n ≤ q → NoneGoes h.worker p q → each_from (λ g k. releases_by g k (own_object g k)) h (p + 1) (n - p) ≡ h
 passed_all h n p q le past quiet = passed_over h n p q le quiet ∙ nothing_left h (q + 1) (n - q) (omega (arith, past))
 
-pub all_passed : (h : Here) (n p : ℕ) → n ≤ p → each_from (λ g k. releases_by g k (own_object g k)) h (p + 1) (n - p) ≡ h
+pub all_passed : (h : WorkerContext) (n p : ℕ) → n ≤ p → each_from (λ g k. releases_by g k (own_object g k)) h (p + 1) (n - p) ≡ h
 all_passed h n p past = nothing_left h (p + 1) (n - p) (omega (arith, past))
 
 -- one turn: what is passed over, and the object behind it
-pub one_released : (h g : Here) (n p q : ℕ) (last : Here) → p ≤ q → NoneGoes h.worker p q → q < n → g ≡ releases_by h (q + 1) (own_object h (q + 1)) →
+pub one_released : (h g : WorkerContext) (n p q : ℕ) (last : WorkerContext) → p ≤ q → NoneGoes h.worker p q → q < n → g ≡ releases_by h (q + 1) (own_object h (q + 1)) →
     each_from (λ g k. releases_by g k (own_object g k)) h (p + 1) (n - p) ≡ last →
     each_from (λ g k. releases_by g k (own_object g k)) g (q + 1 + 1) (n - (q + 1)) ≡ last
 one_released h g n p q last le quiet less new so_far =

@@ -10,7 +10,7 @@ use crate::basics::say;
 use crate::own::drop_dead_holder;
 use ids::{ObjectId, WorkerId};
 use number_lists::{has_object, object_at_number};
-use protocol_data::{Here, Holding, Message, Object, Reason};
+use protocol_data::{Holding, Message, Object, Reason, WorkerContext};
 use sequence::Seq;
 use std::alloc::{AllocError, Global};
 
@@ -42,7 +42,7 @@ fn first_born(first: ObjectId, others: &Seq<ObjectId>) -> ObjectId
 
 /// The holders, whose owners are dead, hold the own object no longer.
 fn drop_holders(
-    here: &mut Here,
+    here: &mut WorkerContext,
     object: ObjectId,
     holders: &Seq<ObjectId>,
 ) -> Result<(), AllocError>
@@ -57,7 +57,7 @@ fn drop_holders(
 /// The same, the first-born before all: it is the one that is kept, whatever order they came in.
 #[tactic(auto, using(crate::proofs::FirstBorn::again))]
 fn drop_first_born_first(
-    here: &mut Here,
+    here: &mut WorkerContext,
     object: ObjectId,
     holders: &Seq<ObjectId>,
 ) -> Result<(), AllocError>
@@ -73,7 +73,7 @@ fn drop_first_born_first(
 /// What the worker owns holds the own object of that serial no longer.
 fn drop_dead_by(
     alloc: Global,
-    here: &mut Here,
+    here: &mut WorkerContext,
     worker: WorkerId,
     serial: u64,
 ) -> Result<(), AllocError>
@@ -89,7 +89,7 @@ fn drop_dead_by(
 
 /// What the worker owns holds no own object any longer.
 #[tactic(auto, using(crate::proofs::EachLaws::each_step, crate::proofs::EachLaws::each_last))]
-fn drop_dead(alloc: Global, here: &mut Here, worker: WorkerId) -> Result<(), AllocError>
+fn drop_dead(alloc: Global, here: &mut WorkerContext, worker: WorkerId) -> Result<(), AllocError>
     ensures { OnOk result (here.new ≡ drops_dead here.old worker) }
 {
     let count = here.worker.objects.len() as u64;
@@ -101,7 +101,7 @@ fn drop_dead(alloc: Global, here: &mut Here, worker: WorkerId) -> Result<(), All
 
 /// The owners of these are told that what the worker owns holds them no longer.
 fn let_go_of_dead(
-    here: &mut Here,
+    here: &mut WorkerContext,
     worker: WorkerId,
     passed: &Seq<Holding>,
 ) -> Result<(), AllocError>
@@ -121,7 +121,7 @@ fn let_go_of_dead(
 }
 
 /// What the worker owns, which is dead, holds nothing any longer: no own object, and nothing that was passed on from here.
-pub fn collect(alloc: Global, here: &mut Here, worker: WorkerId) -> Result<(), AllocError>
+pub fn collect(alloc: Global, here: &mut WorkerContext, worker: WorkerId) -> Result<(), AllocError>
     ensures { OnOk result (here.new ≡ collects here.old worker) }
 {
     let passed = here.worker.passed_on.copy(alloc)?;
@@ -148,7 +148,11 @@ fn add_passed(
 }
 
 /// A content of the holder, with these ids, came from here.
-pub fn pass_on(here: &mut Here, holder: ObjectId, ids: &Seq<ObjectId>) -> Result<(), AllocError>
+pub fn pass_on(
+    here: &mut WorkerContext,
+    holder: ObjectId,
+    ids: &Seq<ObjectId>,
+) -> Result<(), AllocError>
     ensures { OnOk result (here.new ≡ passes_on here.old holder ids.now) }
 {
     let me = here.me;

@@ -8,13 +8,13 @@ ghost use Rattle.protocol.specs.Tables.{task_of};
 ghost use Rattle.protocol_data.specs.declared.tables.Object.{Object};
 ghost use Rattle.protocol_data.specs.declared.tables.OwnTask.{OwnTask};
 
-use held::Origin;
+use held::SharedBirth;
 use number_lists::place_of;
-use protocol_data::{Maker, Objects};
+use protocol_data::{ObjectSource, Objects};
 use task_spec::Birth;
 
 /// How many objects the birth makes: of a put value one, of a task one for each result.
-pub fn results_of(spec: &Origin) -> u64
+pub fn results_of(spec: &SharedBirth) -> u64
     ensures value { result ≡ results_of spec.now }
     ensures bound { result ≤ 2 ^ 8 }
 {
@@ -25,14 +25,14 @@ pub fn results_of(spec: &Origin) -> u64
 }
 
 /// How many objects go with one that is made so: a put value goes alone, with the first object of a task all of them go, with a later one none.
-fn going_with(maker: &Maker) -> u64
-    ensures value { result ≡ going_with maker.now }
+fn going_with(source: &ObjectSource) -> u64
+    ensures value { result ≡ going_with source.now }
     ensures bound { result ≤ 2 ^ 8 }
 {
-    match maker {
-        Maker::WasPut => 1,
-        Maker::ByTask(task) => results_of(&task.spec),
-        Maker::Beside(_) => 0,
+    match source {
+        ObjectSource::WasPut => 1,
+        ObjectSource::ByTask(task) => results_of(&task.spec),
+        ObjectSource::Beside(_) => 0,
     }
 }
 
@@ -40,11 +40,11 @@ fn going_with(maker: &Maker) -> u64
 /// is no such object, that serial itself.
 #[tactic(auto, using(crate::proofs::Goings::goes_by_task, number_lists::proofs::Places::item_there, number_lists::proofs::Places::no_item))]
 pub fn end_of(objects: &Objects, serial: u64) -> u64
-    ensures going { (x : Object) → item_at objects.now serial ≡ Some x → result ≡ serial + going_with x.maker }
+    ensures going { (x : Object) → item_at objects.now serial ≡ Some x → result ≡ serial + going_with x.source }
     ensures task { (task : OwnTask) → task_of (item_at objects.now serial) ≡ Some task → result ≡ serial + results_of task.spec }
 {
     let Some(place) = place_of(serial, objects.len()) else {
         return serial;
     };
-    place as u64 + 1 + going_with(&objects.row(place).maker)
+    place as u64 + 1 + going_with(&objects.row(place).source)
 }

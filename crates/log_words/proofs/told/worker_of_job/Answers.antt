@@ -1,6 +1,6 @@
 use Rattle.std.proofs.Common.{◌≡◌, ℕ, suc, ◌-◌, List, sym, ap, ◌∙◌, slice_get, arith, Some}
 use Rattle.std.proofs.lemmas.Option.{slice_get-get_or, slice_get_past}
-use Rattle.history.specs.of_event_log.Events.{from_one}
+use Rattle.report_text.specs.of_event_log.Events.{from_one}
 use Rattle.log_words.proofs.told.worker_of_job.Goals as goal
 
 given_out : (xs : List ℕ) (j p : ℕ) → j ≡ suc p → from_one xs j ≡ slice_get xs p

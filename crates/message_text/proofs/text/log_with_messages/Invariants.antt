@@ -8,7 +8,7 @@ use Rattle.message_text.proofs.text.log_with_messages.Given as goal
 abbrev pub invariant-loop-place : goal.invariant-loop-place
 invariant-loop-place l = record {
   written :
-      string_bytes l.text ++ lines_with l.contents (births l.log) l.letters l.sent (told_of l.told) (drop l.place l.log)
-      ≡ log_with_messages l.contents l.log l.letters l.sent;
+      string_bytes l.text ++ lines_with l.contents (births l.log) l.envelopes l.sent (told_of l.told) (drop l.place l.log)
+      ≡ log_with_messages l.contents l.log l.envelopes l.sent;
   counted : l.told.events ≤ l.place;
 }

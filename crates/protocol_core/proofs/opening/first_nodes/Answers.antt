@@ -1,7 +1,7 @@
 use Rattle.std.proofs.Common.{◌++◌, ◌-◌, ◌+◌, [], ◌∷◌, ap, ◌∙◌}
 use Rattle.protocol.specs.Nodes.{new_node}
 use Rattle.protocol.specs.Sets.{repeated}
-use Rattle.whole_steps.proofs.Blanks.{one_more}
+use Rattle.cluster_steps.proofs.Blanks.{one_more}
 use Rattle.protocol_core.proofs.opening.first_nodes.Goals as goal
 
 pub loop-turn-preserved : goal.loop-turn-preserved

@@ -1,7 +1,7 @@
 use Rattle.std.proofs.Common.{sym, ap, ◌∙◌, refl, subst}
 use Rattle.protocol.specs.Answers.{answer}
 use Rattle.segment.specs.Jobs.{IsBegun}
-use Rattle.answers.specs.declared.reply.Verdict.TheVariants.{Taken}
+use Rattle.event_answers.specs.declared.reply.Verdict.TheVariants.{Taken}
 use Rattle.protocol_core.specs.Own.{GivesOwn}
 use Rattle.protocol_core.specs.Steps.{Accepts, GivesJob}
 use Rattle.protocol_core.specs.Steps as told

@@ -4,6 +4,6 @@ use Rattle.summary_text.proofs.messages.deliveries.Given as goal
 
 abbrev pub invariant-loop-place : goal.invariant-loop-place
 invariant-loop-place l = record {
-  found : l.count + deliveries l.kind l.letters (drop l.place l.log) ≡ deliveries l.kind l.letters l.log;
+  found : l.count + deliveries l.kind l.envelopes (drop l.place l.log) ≡ deliveries l.kind l.envelopes l.log;
   few : l.count ≤ l.place;
 }

@@ -9,7 +9,7 @@ use Rattle.timeline.proofs.entries.add_entries.Given as goal
 abbrev pub invariant-loop-place : goal.invariant-loop-place
 invariant-loop-place l = record {
   added : map view l.all.items
-      ++ entries_data l.contents (births l.log) l.letters l.sent l.arrivals (told_of l.told) l.rows.items (drop l.place l.log)
-      ≡ map view l.fn.all.items ++ entries_data l.contents (births l.log) l.letters l.sent l.arrivals nothing_told [] l.log;
+      ++ entries_data l.contents (births l.log) l.envelopes l.sent l.arrivals (told_of l.told) l.rows.items (drop l.place l.log)
+      ≡ map view l.fn.all.items ++ entries_data l.contents (births l.log) l.envelopes l.sent l.arrivals nothing_told [] l.log;
   counted : l.told.events ≤ l.place;
 }

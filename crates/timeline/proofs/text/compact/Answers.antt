@@ -7,4 +7,4 @@ use Rattle.timeline.proofs.text.compact.Goals as goal
 pub returns : goal.returns
 returns c =
     let e = c.in_ok-timeline_value.ensures in
-    IfOk-weaker c.to_string.result _ _ (λ s h. h (ap has_float e ∙ timeline_plain c.args.contents c.args.log.now c.args.letters.now c.args.sent.now) ∙ ap compact_text e) c.to_string.ensures.text
+    IfOk-weaker c.to_string.result _ _ (λ s h. h (ap has_float e ∙ timeline_plain c.args.contents c.args.log.now c.args.envelopes.now c.args.sent.now) ∙ ap compact_text e) c.to_string.ensures.text

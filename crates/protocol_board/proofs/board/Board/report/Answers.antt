@@ -1,6 +1,6 @@
 use Rattle.std.proofs.Common.{◌≡◌, List, IfOk, subst, string_bytes}
 use Rattle.event_log.specs.Entries.{Entry}
-use Rattle.history.specs.Report.{report_text}
+use Rattle.report_text.specs.Report.{report_text}
 use Rattle.protocol_board.proofs.board.Board.report.Goals as goal
 
 pub returns-clause-text : goal.returns-clause-text

@@ -1,0 +1,129 @@
+// Workers that do their part in an event.
+
+ghost use Rattle.std.specs.Prelude.{◌≡◌, ◌<◌, ◌+◌, IfOk, OnOk, Some, length, slice_get, slice_set};
+ghost use Rattle.limit_laws.specs.Limits.{entries_within, whole_within};
+ghost use Rattle.protocol.specs.Cluster.{after_worker, worker_does};
+ghost use Rattle.protocol_data.specs.declared.cluster_state.ClusterState.{ClusterState};
+ghost use Rattle.worker_acts.specs.Acts.{act_step};
+ghost use Rattle.cluster_events.specs.Kept.{IsKept, IsLeft, put_into};
+
+use crate::counting::{fits, nothing};
+use cluster_steps::{blank_here, exchange, node_place, put_worker, take_worker, worker_place};
+use ids::{NodeId, WorkerId};
+use log_entries::Entry;
+use protocol_data::{ClusterState, Node, Worker, WorkerContext};
+use sequence::Seq;
+use std::alloc::{AllocError, Global};
+use worker_acts::{Act, take_part};
+
+/// The worker of that number does its part in an event. The entries that this adds are given back.
+pub fn act(
+    alloc: Global,
+    whole: &mut ClusterState,
+    number: WorkerId,
+    what: &Act,
+) -> Result<Seq<Entry>, AllocError>
+    ensures whole { OnOk result (whole.new ≡ (worker_does whole.old number (act_step what.now)).whole) }
+    ensures entries { IfOk result (λ entries. entries ≡ (worker_does whole.old number (act_step what.now)).out.entries) }
+{
+    let Some(place) = worker_place(whole, number) else {
+        return Ok(Seq::new(alloc));
+    };
+    let node = whole.workers.get(place).node;
+    let Some(node_place) = node_place(whole, node) else {
+        return Ok(Seq::new(alloc));
+    };
+    let mut here = blank_here(alloc, whole, number, node);
+    exchange(whole, place, node_place, &mut here);
+    take_part(alloc, &mut here, what)?;
+    put_worker(alloc, whole, place, node_place, number, node, here)
+}
+
+/// A worker and its node as they were.
+#[derive(Drop)]
+pub struct Kept {
+    /// The worker's tables before the event.
+    pub worker: Worker,
+    /// Its node's tables before the event.
+    pub node: Node,
+}
+
+/// The worker and its node are kept.
+fn keep(
+    alloc: Global,
+    whole: &ClusterState,
+    place: usize,
+    node_place: usize,
+) -> Result<Kept, AllocError>
+    requires worker { place < length whole.now.workers }
+    requires node { node_place < length whole.now.nodes }
+    ensures { IfOk result (λ kept. IsKept kept whole.now place node_place) }
+{
+    let worker = whole.workers.get(place).copy(alloc)?;
+    let node = whole.nodes.get(node_place).copy(alloc)?;
+    Ok(Kept { worker, node })
+}
+
+/// What was kept stands in its place again.
+fn put_again(whole: &mut ClusterState, place: usize, node_place: usize, kept: Kept)
+    requires worker { place < length whole.old.workers }
+    requires node { node_place < length whole.old.nodes }
+    ensures { whole.new ≡ record whole.old { workers = slice_set whole.old.workers place kept.worker; nodes = slice_set whole.old.nodes node_place kept.node } }
+{
+    whole.workers.set(place, kept.worker);
+    whole.nodes.set(node_place, kept.node);
+}
+
+/// The worker and its node are put back with what they made, or as they were where a limit would be passed.
+fn put_within(
+    alloc: Global,
+    whole: &mut ClusterState,
+    place: usize,
+    node_place: usize,
+    number: WorkerId,
+    node: NodeId,
+    here: WorkerContext,
+    kept: Kept,
+    made: u64,
+) -> Result<Option<Seq<Entry>>, AllocError>
+    requires place_in { place < length whole.old.workers }
+    requires number { number ≡ 1 + place }
+    requires node_place_in { node_place < length whole.old.nodes }
+    requires node_number { node ≡ 1 + node_place }
+    ensures whole { (c : ClusterState) → IsLeft kept c place node_place whole.old → OnOk result (whole.new ≡ put_into made c whole.old number node here) }
+    ensures entries { IfOk result (λ given. given ≡ entries_within made (after_worker whole.old number node here)) }
+{
+    if fits(whole, u64::from(here.there.opened), made) {
+        let entries = put_worker(alloc, whole, place, node_place, number, node, here)?;
+        return Ok(Some(entries));
+    }
+    put_again(whole, place, node_place, kept);
+    Ok(None)
+}
+
+/// The worker of that number does its part in an event, after which there are so many objects. The worker and its node are kept meanwhile: where
+/// a limit would be passed they stand again as they were.
+pub fn act_or_restore(
+    alloc: Global,
+    whole: &mut ClusterState,
+    number: WorkerId,
+    what: &Act,
+    made: u64,
+) -> Result<Option<Seq<Entry>>, AllocError>
+    ensures whole { OnOk result (whole.new ≡ whole_within made whole.old (worker_does whole.old number (act_step what.now))) }
+    ensures entries { IfOk result (λ given. given ≡ entries_within made (worker_does whole.old number (act_step what.now))) }
+{
+    let Some(place) = worker_place(whole, number) else {
+        return Ok(nothing(alloc, whole, made));
+    };
+    let node = whole.workers.get(place).node;
+    let Some(node_place) = node_place(whole, node) else {
+        return Ok(nothing(alloc, whole, made));
+    };
+    let kept = keep(alloc, whole, place, node_place)?;
+    let mut here = take_worker(alloc, whole, place, node_place, number, node);
+    take_part(alloc, &mut here, what)?;
+    put_within(
+        alloc, whole, place, node_place, number, node, here, kept, made,
+    )
+}

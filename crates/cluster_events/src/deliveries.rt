@@ -1,0 +1,104 @@
+// Deliveries as changes of the whole run: a message reaches its receiver, if that lives.
+
+ghost use Rattle.std.specs.Prelude.{◌≡◌, IfOk, OnOk};
+ghost use Rattle.limit_laws.specs.Later.{marked};
+ghost use Rattle.limit_laws.specs.Limits.{entries_limited, whole_limited};
+ghost use Rattle.protocol.specs.Events.{delivered, delivered_to};
+
+use crate::counting::nothing;
+use crate::node_events::deliver_to_node_within;
+use crate::within_limits::let_act;
+use log_entries::Entry;
+use number_lists::{item_at_number, place_of};
+use protocol_data::{ClusterState, Endpoint, Envelope, Message};
+use refusals::{is_live_node, is_live_worker};
+use sequence::Seq;
+use std::alloc::{AllocError, Global};
+use worker_acts::Act;
+
+/// An equal envelope.
+fn copy_envelope(alloc: Global, envelope: &Envelope) -> Result<Envelope, AllocError>
+    ensures { IfOk result (λ l. l ≡ envelope.now) }
+{
+    let message = envelope.message.copy(alloc)?;
+    let sender = copy_endpoint(&envelope.sender);
+    let receiver = copy_endpoint(&envelope.receiver);
+    Ok(Envelope {
+        sender,
+        receiver,
+        message,
+    })
+}
+
+fn copy_endpoint(endpoint: &Endpoint) -> Endpoint
+    ensures { result ≡ endpoint.now }
+{
+    match endpoint {
+        Endpoint::TheWorker(worker) => Endpoint::TheWorker(*worker),
+        Endpoint::TheNode(node) => Endpoint::TheNode(*node),
+    }
+}
+
+/// The envelope reaches its receiver; nothing happens where that is dead.
+fn hand_over(
+    alloc: Global,
+    whole: &mut ClusterState,
+    envelope: Envelope,
+) -> Result<Option<Seq<Entry>>, AllocError>
+    ensures whole { OnOk result (whole.new ≡ whole_limited whole.old (delivered_to whole.old envelope envelope.receiver)) }
+    ensures entries { IfOk result (λ given. given ≡ entries_limited (delivered_to whole.old envelope envelope.receiver)) }
+{
+    let Envelope {
+        sender,
+        receiver,
+        message,
+    } = envelope;
+    let made = whole.made;
+    match receiver {
+        Endpoint::TheWorker(worker) => {
+            if !is_live_worker(whole, worker) {
+                return Ok(nothing(alloc, whole, made));
+            }
+            let_act(alloc, whole, worker, &Act::Hear(sender, message), made)
+        }
+        Endpoint::TheNode(node) => {
+            if !is_live_node(whole, node) {
+                return Ok(nothing(alloc, whole, made));
+            }
+            deliver_to_node_within(alloc, whole, node, sender, &message)
+        }
+    }
+}
+
+/// The message at the place was delivered.
+#[tactic(auto, using(limit_laws::proofs::Later::marked_past))]
+fn mark(whole: &mut ClusterState, place: usize)
+    ensures { whole.new ≡ marked place whole.old }
+{
+    if place < whole.delivered.len() {
+        whole.delivered.set(place, true);
+    }
+}
+
+/// The message of that number reaches its receiver, once more if it did before.
+pub fn deliver(
+    alloc: Global,
+    whole: &mut ClusterState,
+    number: u64,
+) -> Result<Option<Seq<Entry>>, AllocError>
+    ensures whole { OnOk result (whole.new ≡ whole_limited whole.old (delivered whole.old number)) }
+    ensures entries { IfOk result (λ given. given ≡ entries_limited (delivered whole.old number)) }
+{
+    let Some(envelope) = item_at_number(&whole.network, number) else {
+        return Ok(nothing(alloc, whole, whole.made));
+    };
+    let envelope = copy_envelope(alloc, envelope)?;
+    let Some(place) = place_of(number, whole.delivered.len()) else {
+        return hand_over(alloc, whole, envelope);
+    };
+    let Some(entries) = hand_over(alloc, whole, envelope)? else {
+        return Ok(None);
+    };
+    mark(whole, place);
+    Ok(Some(entries))
+}

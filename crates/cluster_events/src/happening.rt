@@ -1,0 +1,52 @@
+// One event, where nothing refuses it beforehand.
+
+ghost use Rattle.std.specs.Prelude.{◌≡◌, IfOk, OnOk};
+ghost use Rattle.limit_laws.specs.Limits.{entries_limited, whole_limited};
+ghost use Rattle.protocol.specs.Events.{happens};
+
+use crate::deaths::{join, kill, kill_node};
+use crate::deliveries::deliver;
+use crate::jobs::{claim, commit};
+use crate::stores::{Loss, lose_at};
+use crate::within_limits::let_worker_act;
+use log_entries::{Entry, Event};
+use protocol_data::{ClusterState, CommitInput};
+use sequence::Seq;
+use std::alloc::{AllocError, Global};
+use worker_acts::Act;
+
+/// What the event makes of the whole, with what is handed in. The entries that it adds behind its own are given back; none where a limit would
+/// be passed, and nothing is changed then. After an error nothing is said of the whole.
+pub fn happen(
+    alloc: Global,
+    whole: &mut ClusterState,
+    event: &Event,
+    handed: CommitInput,
+) -> Result<Option<Seq<Entry>>, AllocError>
+    ensures whole { OnOk result (whole.new ≡ whole_limited whole.old (happens whole.old event.now handed)) }
+    ensures entries { IfOk result (λ given. given ≡ entries_limited (happens whole.old event.now handed)) }
+{
+    match event {
+        Event::Claim(worker) => claim(alloc, whole, *worker),
+        Event::Commit(job) => commit(alloc, whole, *job, handed),
+        Event::Deliver(message) => deliver(alloc, whole, *message),
+        Event::Tick(worker) => let_worker_act(alloc, whole, *worker, &Act::Tick),
+        Event::Notice { worker, dead } => let_worker_act(
+            alloc,
+            whole,
+            *worker,
+            &Act::LearnWorkerDied(*dead),
+        ),
+        Event::NoticeNode { worker, dead } => let_worker_act(
+            alloc,
+            whole,
+            *worker,
+            &Act::LearnNodeDied(*dead),
+        ),
+        Event::Evict { node, object } => lose_at(alloc, whole, *node, *object, Loss::Evicted),
+        Event::Lose { node, object } => lose_at(alloc, whole, *node, *object, Loss::Lost),
+        Event::Kill(worker) => kill(alloc, whole, *worker),
+        Event::KillNode(node) => kill_node(alloc, whole, *node),
+        Event::Join => join(alloc, whole),
+    }
+}

@@ -1,0 +1,107 @@
+// Claims, which give out a job, and commits, which hand one in, as changes of the whole run.
+
+ghost use Rattle.std.specs.Prelude.{◌≡◌, ◌<◌, ◌+◌, ◌++◌, ◌∷◌, [], IfOk, OnOk, false, length};
+ghost use Rattle.limit_laws.specs.Limits.{entries_limited, whole_limited};
+ghost use Rattle.protocol.specs.Events.{as_committed, claimed, committed};
+ghost use Rattle.protocol.specs.Jobs.{OfJob};
+ghost use Rattle.protocol.specs.Numbered.{changed_at};
+ghost use Rattle.protocol.specs.Cluster.{moved};
+
+use crate::births::with_made;
+use crate::counting::nothing;
+use crate::within_limits::let_act;
+use ids::WorkerId;
+use log_entries::Entry;
+use number_lists::place_of;
+use protocol_data::{ClusterState, CommitInput, JobRecord, Outcomes};
+use sequence::Seq;
+use std::alloc::{AllocError, Global};
+use worker_acts::Act;
+
+/// The number of the next job.
+pub fn next_job(whole: &ClusterState) -> u64
+    ensures { result ≡ length whole.now.jobs + 1 }
+{
+    whole.jobs.items.len() as u64 + 1
+}
+
+/// The next job is the worker's.
+fn add_job(whole: &mut ClusterState, worker: WorkerId) -> Result<(), AllocError>
+    ensures { OnOk result (whole.new ≡ record whole.old { jobs = whole.old.jobs ++ record { worker = worker; is_committed = false } ∷ [] }) }
+{
+    whole.jobs.push(JobRecord {
+        worker,
+        is_committed: false,
+    })?;
+    Ok(())
+}
+
+/// The worker's attempt is given out as the next job.
+pub fn claim(
+    alloc: Global,
+    whole: &mut ClusterState,
+    worker: WorkerId,
+) -> Result<Option<Seq<Entry>>, AllocError>
+    ensures whole { OnOk result (whole.new ≡ whole_limited whole.old (claimed whole.old worker)) }
+    ensures entries { IfOk result (λ given. given ≡ entries_limited (claimed whole.old worker)) }
+{
+    let job = next_job(whole);
+    let made = whole.made;
+    let Some(entries) = let_act(alloc, whole, worker, &Act::Claim(job), made)? else {
+        return Ok(None);
+    };
+    add_job(whole, worker)?;
+    Ok(Some(entries))
+}
+
+/// The job at the place was committed, and there are so many objects now.
+fn note_commit(whole: &mut ClusterState, place: usize, job: u64, made: u64)
+    requires place_in { place < length whole.old.jobs }
+    requires number { job ≡ 1 + place }
+    ensures { whole.new ≡ record whole.old { jobs = changed_at whole.old.jobs job as_committed; made = made } }
+{
+    let jobs = &mut whole.jobs;
+    let given = &mut jobs.items[place];
+    given.is_committed = true;
+    whole.made = made;
+}
+
+/// What was done on the job is committed.
+fn commit_outcomes(
+    alloc: Global,
+    whole: &mut ClusterState,
+    job: u64,
+    outcomes: Outcomes,
+) -> Result<Option<Seq<Entry>>, AllocError>
+    ensures whole { OnOk result (whole.new ≡ whole_limited whole.old (committed whole.old job (OfJob outcomes))) }
+    ensures entries { IfOk result (λ given. given ≡ entries_limited (committed whole.old job (OfJob outcomes))) }
+{
+    let Some(place) = place_of(job, whole.jobs.len()) else {
+        return Ok(nothing(alloc, whole, whole.made));
+    };
+    let worker = whole.jobs.get(place).worker;
+    let Some(made) = with_made(whole.made, &outcomes.births) else {
+        return Ok(None);
+    };
+    let Some(entries) = let_act(alloc, whole, worker, &Act::Commit(outcomes), made)? else {
+        return Ok(None);
+    };
+    note_commit(whole, place, job, made);
+    Ok(Some(entries))
+}
+
+/// What is handed in is committed as what was done on the job.
+pub fn commit(
+    alloc: Global,
+    whole: &mut ClusterState,
+    job: u64,
+    handed: CommitInput,
+) -> Result<Option<Seq<Entry>>, AllocError>
+    ensures whole { OnOk result (whole.new ≡ whole_limited whole.old (committed whole.old job handed)) }
+    ensures entries { IfOk result (λ given. given ≡ entries_limited (committed whole.old job handed)) }
+{
+    match handed {
+        CommitInput::OfJob(outcomes) => commit_outcomes(alloc, whole, job, outcomes),
+        _ => Ok(nothing(alloc, whole, whole.made)),
+    }
+}

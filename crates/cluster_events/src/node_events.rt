@@ -1,0 +1,34 @@
+// Events of nodes, which are refused where they would open one worker too many.
+
+ghost use Rattle.std.specs.Prelude.{◌≡◌, IfOk, OnOk};
+ghost use Rattle.limit_laws.specs.Limits.{entries_within, whole_within};
+ghost use Rattle.protocol.specs.Slots.{node_reached};
+ghost use Rattle.protocol.specs.Cluster.{node_does};
+
+use crate::counting::{fits, opened_at};
+use cluster_steps::deliver_to_node;
+use ids::NodeId;
+use log_entries::Entry;
+use protocol_data::{ClusterState, Endpoint, Message};
+use sequence::Seq;
+use std::alloc::{AllocError, Global};
+
+/// A message reaches the node of that number. The entries that it adds are given back; none where a limit would be passed, and nothing is
+/// changed then.
+pub fn deliver_to_node_within(
+    alloc: Global,
+    whole: &mut ClusterState,
+    number: NodeId,
+    sender: Endpoint,
+    message: &Message,
+) -> Result<Option<Seq<Entry>>, AllocError>
+    ensures whole { OnOk result (whole.new ≡ whole_within whole.old.made whole.old (node_does whole.old number (λ h. node_reached h sender message.now))) }
+    ensures entries { IfOk result (λ given. given ≡ entries_within whole.old.made (node_does whole.old number (λ h. node_reached h sender message.now))) }
+{
+    let opened = opened_at(whole, number, &sender, message);
+    if !fits(whole, opened, whole.made) {
+        return Ok(None);
+    }
+    let entries = deliver_to_node(alloc, whole, number, sender, message)?;
+    Ok(Some(entries))
+}

@@ -1,0 +1,67 @@
+// Copies that are evicted or lost.
+
+ghost use Rattle.std.specs.Prelude.{◌≡◌, ◌<◌, ◌+◌, IfOk, OnOk, length};
+ghost use Rattle.limit_laws.specs.Limits.{entries_limited, whole_limited};
+ghost use Rattle.protocol.specs.Events.{store_does};
+ghost use Rattle.protocol.specs.Numbered.{changed_at};
+ghost use Rattle.cluster_events.specs.Losses.{behind};
+
+use crate::counting::{fits, nothing};
+use cluster_steps::node_place;
+use ids::{NodeId, ObjectId};
+use log_entries::Entry;
+use object_store::{remove_copies, remove_secondaries};
+use protocol_data::{ClusterState, Store};
+use sequence::Seq;
+use std::alloc::{AllocError, Global};
+
+/// Which copies of an object go at a node.
+#[derive(Clone, Copy)]
+pub enum Loss {
+    /// The secondary ones: they are evicted.
+    Evicted,
+    /// Every one.
+    Lost,
+}
+
+/// The copies of the object go.
+fn lose(store: &mut Store, object: ObjectId, loss: Loss)
+    ensures { store.new ≡ behind loss object store.old }
+{
+    match loss {
+        Loss::Evicted => remove_secondaries(store, object),
+        Loss::Lost => remove_copies(store, object),
+    }
+}
+
+/// The copies of the object go at the node of that place.
+fn lose_there(whole: &mut ClusterState, place: usize, number: NodeId, object: ObjectId, loss: Loss)
+    requires place_in { place < length whole.old.nodes }
+    requires number { number ≡ 1 + place }
+    ensures { whole.new ≡ record whole.old { nodes = changed_at whole.old.nodes number (λ node. record node { store = behind loss object node.store }) } }
+{
+    let nodes = &mut whole.nodes;
+    let node = &mut nodes.items[place];
+    lose(&mut node.store, object, loss);
+}
+
+/// The copies of the object at the node go.
+pub fn lose_at(
+    alloc: Global,
+    whole: &mut ClusterState,
+    number: NodeId,
+    object: ObjectId,
+    loss: Loss,
+) -> Result<Option<Seq<Entry>>, AllocError>
+    ensures whole { OnOk result (whole.new ≡ whole_limited whole.old (store_does whole.old number (λ s. behind loss object s))) }
+    ensures entries { IfOk result (λ given. given ≡ entries_limited (store_does whole.old number (λ s. behind loss object s))) }
+{
+    let Some(place) = node_place(whole, number) else {
+        return Ok(nothing(alloc, whole, whole.made));
+    };
+    if !fits(whole, 0, whole.made) {
+        return Ok(None);
+    }
+    lose_there(whole, place, number, object, loss);
+    Ok(Some(Seq::new(alloc)))
+}

@@ -1,0 +1,52 @@
+// Events of workers, which are refused where they would pass a limit.
+
+ghost use Rattle.std.specs.Prelude.{◌≡◌, IfOk, OnOk};
+ghost use Rattle.limit_laws.specs.Limits.{entries_limited, entries_within, whole_limited, whole_within};
+ghost use Rattle.protocol.specs.Cluster.{worker_does};
+ghost use Rattle.worker_acts.specs.Acts.{act_step};
+
+use crate::acting::{act, act_or_restore};
+use crate::counting::fits;
+use ids::WorkerId;
+use log_entries::Entry;
+use protocol_data::ClusterState;
+use sequence::Seq;
+use std::alloc::{AllocError, Global};
+use worker_acts::Act;
+
+/// The worker of that number does its part in an event, after which there are so many objects. The entries that this adds are given back;
+/// none where a limit would be passed, and nothing is changed then. An event opens one worker at most: with room for that one, nothing need be
+/// kept.
+pub fn let_act(
+    alloc: Global,
+    whole: &mut ClusterState,
+    number: WorkerId,
+    what: &Act,
+    made: u64,
+) -> Result<Option<Seq<Entry>>, AllocError>
+    ensures whole { OnOk result (whole.new ≡ whole_within made whole.old (worker_does whole.old number (act_step what.now))) }
+    ensures entries { IfOk result (λ given. given ≡ entries_within made (worker_does whole.old number (act_step what.now))) }
+{
+    if !fits(whole, 0, made) {
+        return Ok(None);
+    }
+    if whole.workers.len() < 1024 {
+        let entries = act(alloc, whole, number, what)?;
+        return Ok(Some(entries));
+    }
+    act_or_restore(alloc, whole, number, what, made)
+}
+
+/// The worker of that number does its part in an event that bears nothing.
+pub fn let_worker_act(
+    alloc: Global,
+    whole: &mut ClusterState,
+    number: WorkerId,
+    what: &Act,
+) -> Result<Option<Seq<Entry>>, AllocError>
+    ensures whole { OnOk result (whole.new ≡ whole_limited whole.old (worker_does whole.old number (act_step what.now))) }
+    ensures entries { IfOk result (λ given. given ≡ entries_limited (worker_does whole.old number (act_step what.now))) }
+{
+    let made = whole.made;
+    let_act(alloc, whole, number, what, made)
+}

@@ -1,0 +1,51 @@
+// What a node does in a whole run: taken out, told or handed a message, and put back.
+
+ghost use Rattle.std.specs.Prelude.{◌≡◌, OnOk, IfOk};
+ghost use Rattle.protocol.specs.Slots.{forgets, node_reached};
+ghost use Rattle.protocol.specs.Cluster.{node_does};
+
+use crate::put_back::put_node;
+use crate::take_out::{node_place, take_node};
+use ids::{NodeId, WorkerId};
+use lease::{killed, node_reached};
+use log_entries::Entry;
+use protocol_data::{ClusterState, Endpoint, Message};
+use sequence::Seq;
+use std::alloc::{AllocError, Global};
+
+/// A message reaches the node of that number. The entries that it adds are given back.
+pub fn deliver_to_node(
+    alloc: Global,
+    whole: &mut ClusterState,
+    number: NodeId,
+    sender: Endpoint,
+    message: &Message,
+) -> Result<Seq<Entry>, AllocError>
+    ensures whole { OnOk result (whole.new ≡ (node_does whole.old number (λ h. node_reached h sender message.now)).whole) }
+    ensures entries { IfOk result (λ entries. entries ≡ (node_does whole.old number (λ h. node_reached h sender message.now)).out.entries) }
+{
+    let Some(place) = node_place(whole, number) else {
+        return Ok(Seq::new(alloc));
+    };
+    let mut there = take_node(alloc, whole, place, number);
+    node_reached(alloc, &mut there, sender, message)?;
+    put_node(alloc, whole, place, number, there)
+}
+
+/// The node of that number is told that its worker is dead. The entries that this adds are given back.
+pub fn forget_at_node(
+    alloc: Global,
+    whole: &mut ClusterState,
+    number: NodeId,
+    worker: WorkerId,
+) -> Result<Seq<Entry>, AllocError>
+    ensures whole { OnOk result (whole.new ≡ (node_does whole.old number (λ h. forgets h worker)).whole) }
+    ensures entries { IfOk result (λ entries. entries ≡ (node_does whole.old number (λ h. forgets h worker)).out.entries) }
+{
+    let Some(place) = node_place(whole, number) else {
+        return Ok(Seq::new(alloc));
+    };
+    let mut there = take_node(alloc, whole, place, number);
+    killed(alloc, &mut there, worker)?;
+    put_node(alloc, whole, place, number, there)
+}

@@ -1,0 +1,36 @@
+// What is answered to an event.
+
+ghost use Rattle.std.specs.Prelude.{◌≡◌, IfOk, OnOk};
+ghost use Rattle.event_answers.specs.Replies.{reply_of};
+ghost use Rattle.protocol.specs.Answers.{answer, whole_after};
+
+use crate::given::given_out;
+use crate::reply::{Answered, refused, taken};
+use cluster_events::happen;
+use log_entries::{Event, Refusal};
+use protocol_data::{ClusterState, CommitInput};
+use refusals::refusal;
+use std::alloc::{AllocError, Global};
+
+/// One event of the whole run, with what is handed in. It is refused, and nothing changes; or it is taken. After an error, which is want of
+/// memory or of a number, nothing is said of the whole.
+pub fn answer(
+    alloc: Global,
+    whole: &mut ClusterState,
+    event: &Event,
+    handed: CommitInput,
+) -> Result<Answered, AllocError>
+    ensures whole { OnOk result (whole.new ≡ whole_after whole.old (answer whole.old event.now handed)) }
+    ensures reply { IfOk result (λ reply. reply ≡ reply_of (answer whole.old event.now handed)) }
+{
+    if let Some(code) = refusal(whole, event, &handed) {
+        let reply = refused(alloc, code)?;
+        return Ok(reply);
+    }
+    let given = given_out(alloc, whole, event)?;
+    let Some(entries) = happen(alloc, whole, event, handed)? else {
+        let reply = refused(alloc, Refusal::Limit)?;
+        return Ok(reply);
+    };
+    Ok(taken(entries, given))
+}

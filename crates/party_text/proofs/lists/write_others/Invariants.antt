@@ -1,7 +1,0 @@
-use Rattle.std.proofs.Common.{◌≡◌, ◌++◌, string_bytes, take}
-use Rattle.std.specs.List.{flat_map}
-use Rattle.party_text.specs.Lists.{next_text}
-use Rattle.party_text.proofs.lists.write_others.Given as goal
-
-abbrev pub invariant-loop-object : goal.invariant-loop-object
-invariant-loop-object l = string_bytes l.text ≡ string_bytes l.fn.text ++ flat_map next_text (take l.object-index l.objects)

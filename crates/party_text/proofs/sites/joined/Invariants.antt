@@ -1,9 +1,0 @@
-use Rattle.std.proofs.Common.{◌≡◌, ◌≤◌, ◌+◌, drop}
-use Rattle.party_text.specs.Nodes.{joined}
-use Rattle.party_text.proofs.sites.joined.Given as goal
-
-abbrev pub invariant-loop-place : goal.invariant-loop-place
-invariant-loop-place l = record {
-  counted : l.count + joined (drop l.place l.log) ≡ joined l.log;
-  few : l.count ≤ l.place;
-}

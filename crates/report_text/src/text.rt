@@ -1,0 +1,33 @@
+// The whole report of a log, its sections one after the other.
+
+ghost use Rattle.std.specs.Prelude.{◌≡◌, IfOk, string_bytes};
+ghost use Rattle.report_text.specs.Report.{report_text};
+
+use crate::attempts::write_attempts;
+use crate::main_end::write_main;
+use crate::objects::{write_releases, write_resolves};
+use crate::prints::write_prints;
+use crate::refusals::write_refusals;
+use log_entries::Entry;
+use std::alloc::{AllocError, Global};
+
+/// The report of a log, in lines that each end with a line feed, each section in the order of the log: the prints
+/// (`print 49`), main's end (`main value 0`, `main trap DivZero`, `main fault OwnerDied o2.1` or `main open`), the
+/// attempts but main's (`attempt a1.1#0 w2 accepted`, else `ended`, `faulted` or `open`, by the whole log), the objects
+/// with a fault (`resolved o1.2 PutLost o1.1`), those released (`released o1.1`), and the refused events
+/// (`refused 30 kill 2`).
+///
+/// It is made of any log, a legal one or not: of several ends or faults of main the first counts, an end counts before a
+/// fault, and a refusal with no event before it is written without one. Goes over the log a fixed number of times.
+pub fn report_text(alloc: Global, log: &[Entry]) -> Result<String, AllocError>
+    ensures { IfOk result (λ text. string_bytes text ≡ report_text log.now) }
+{
+    let mut text = String::new(alloc);
+    write_prints(&mut text, log)?;
+    write_main(&mut text, log)?;
+    write_attempts(alloc, &mut text, log)?;
+    write_resolves(&mut text, log)?;
+    write_releases(&mut text, log)?;
+    write_refusals(&mut text, log)?;
+    Ok(text)
+}

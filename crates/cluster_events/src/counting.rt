@@ -33,7 +33,7 @@ fn reached_opens(scheduler: &Scheduler, sender: &Endpoint, message: &Message) ->
         Endpoint::TheWorker(_) => match message {
             Message::Ask(attempt, t) => {
                 let attempt = *attempt;
-                asked_opens(scheduler, &AskKey { attempt, t: *t })
+                asked_opens(scheduler, &AskKey { attempt, hops: *t })
             }
             _ => false,
         },
@@ -70,13 +70,13 @@ fn without(
 fn death_opens(alloc: Global, scheduler: &Scheduler, worker: WorkerId) -> Result<bool, AllocError>
     ensures { IfOk result (λ opens. opens ≡ death_opens scheduler.now worker) }
 {
-    if !has_worker(&scheduler.holders, worker) {
+    if !has_worker(&scheduler.slot_holders, worker) {
         return Ok(false);
     }
-    let holders = without(alloc, &scheduler.holders, worker)?;
+    let slot_holders = without(alloc, &scheduler.slot_holders, worker)?;
     let answered = without(alloc, &scheduler.answered, worker)?;
     let idle = without(alloc, &scheduler.idle, worker)?;
-    let is_free = (holders.len() as u64) < u64::from(scheduler.slots);
+    let is_free = (slot_holders.len() as u64) < u64::from(scheduler.slots);
     let is_queued = !scheduler.queue.as_slice().is_empty();
     Ok(is_free && answered.items.is_empty() && is_queued && idle.items.is_empty())
 }

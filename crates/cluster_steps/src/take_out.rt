@@ -37,7 +37,7 @@ pub fn new_node(alloc: Global, slots: u32) -> Node
         },
         scheduler: Scheduler {
             slots,
-            holders: Seq::new(alloc),
+            slot_holders: Seq::new(alloc),
             answered: Seq::new(alloc),
             queue: Queue::new(alloc),
             asks: Asks::new(alloc),

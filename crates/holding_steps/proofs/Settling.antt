@@ -10,12 +10,12 @@ use Rattle.numbered.specs.of_protocol.Numbered.{item_at}
 use Rattle.numbered.specs.of_protocol.Sets.{fault, has, is_empty}
 use Rattle.numbered.specs.of_protocol.Messages.{At, Gone}
 use Rattle.numbered.specs.of_protocol.Stores.{copy_in, looked_up}
-use Rattle.numbered.specs.of_protocol.Tables.{Fetching, Object, OwnTask, Phase, Ready, Out, Waits, HasEnded, HasFaulted, Execution, AskedAt, first_by, has_content, has_stopped, is_lost, is_pending_task, is_waiting_for, knows_dead, live_place, owner_of, settled_number, task_by, with_fault, with_task, without_askers, without_place, without_places}
+use Rattle.numbered.specs.of_protocol.Tables.{Fetching, Object, OwnTask, Phase, Ready, Out, Waits, HasEnded, HasFaulted, Execution, AskedAt, first_by, has_content, has_stopped, is_lost, is_pending_task, is_waiting_for, knows_dead, live_location, owner_of, settled_number, task_by, with_fault, with_task, without_askers, without_location, without_locations}
 use Rattle.numbered.specs.of_protocol.Steps.{WorkerContext, changes, logs, object_at, own_id, own_object, says, store_here, with_phase, with_run, with_store}
 use Rattle.numbered.specs.of_protocol.Runs.{tells_stop, tells, is_heard, leaves, leaves_by, gives_slot_back, faults_at, faults_by, faults, gets_at, gets_by, gets, fetches, with_fetching_at, with_fetching_by, with_fetching}
 use Rattle.numbered.specs.of_protocol.Asking.{requests, next_attempt, resolves, tells_gone, faults_if_waiting, answers_gone, answers_faulted_by, answers_faulted}
 use Rattle.numbered.specs.of_protocol.Recovery.{is_lost_here, members, first_stop, remakes_by, remakes_one, remakes, gives_up, recovers_by, recovers, recovers_if_lost}
-use Rattle.numbered.specs.of_protocol.Places.{looks_elsewhere_by, looks_elsewhere, looks_here_by, looks_at_places, looks_for_by, looks_for, needs_released, needs_unresolved, needs_by, needs_at, needs_own, needs_own_if_waiting, tells_places, answers_settled_by, answers_settled}
+use Rattle.numbered.specs.of_protocol.Locations.{looks_elsewhere_by, looks_elsewhere, looks_here_by, looks_at_locations, looks_for_by, looks_for, needs_released, needs_unresolved, needs_by, needs_at, needs_own, needs_own_if_waiting, tells_locations, answers_settled_by, answers_settled}
 use Rattle.numbered.proofs.Lists.{changed_cases}
 
 -- ---- the attempt's answers change no object
@@ -164,23 +164,23 @@ gets_keeps h c = keeps_same h (gets h c) (gets_by_objects h c h.worker.run)
 
 elsewhere_keeps : (h : WorkerContext) (o : Id) (x : Object) (r : Option ℕ) → KeepsSettled h (looks_elsewhere_by h o x r)
 elsewhere_keeps h o x None =
-    let g : WorkerContext = changes h o without_places in keeps_then h g (recovers_if_lost g o) (keeps_changed h o without_places (λ y. refl)) (recovers_if_keeps g o)
+    let g : WorkerContext = changes h o without_locations in keeps_then h g (recovers_if_lost g o) (keeps_changed h o without_locations (λ y. refl)) (recovers_if_keeps g o)
 elsewhere_keeps h o x (Some n) = keeps_same h (fetches h o (settled_number x) n) (fetching_objects h (Some (record { number = settled_number x; node = n })) h.worker.run)
 
 here_keeps : (h : WorkerContext) (o : Id) (x : Object) (c : Option Outcome) → KeepsSettled h (looks_here_by h o x c)
 here_keeps h o x None =
-    let g : WorkerContext = changes h o (without_place h.worker.node) in
-    let y : Object = without_place h.worker.node x in
-    keeps_then h g (looks_elsewhere g o y) (keeps_changed h o (without_place h.worker.node) (λ z. refl)) (elsewhere_keeps g o y (live_place g.worker y.places))
+    let g : WorkerContext = changes h o (without_location h.worker.node) in
+    let y : Object = without_location h.worker.node x in
+    keeps_then h g (looks_elsewhere g o y) (keeps_changed h o (without_location h.worker.node) (λ z. refl)) (elsewhere_keeps g o y (live_location g.worker y.locations))
 here_keeps h o x (Some c) = let g : WorkerContext = with_store h (looked_up (store_here h) o (settled_number x)) in keeps_same h (gets g c) (gets_by_objects g c g.worker.run)
 
-places_keeps : (h : WorkerContext) (o : Id) (x : Object) → KeepsSettled h (looks_at_places h o x)
-places_keeps h o x =
-    keeps_if (has x.places h.worker.node) h (looks_here_by h o x (copy_in (store_here h) o (settled_number x))) (looks_elsewhere h o x) (here_keeps h o x (copy_in (store_here h) o (settled_number x)))
-    (elsewhere_keeps h o x (live_place h.worker x.places))
+locations_keeps : (h : WorkerContext) (o : Id) (x : Object) → KeepsSettled h (looks_at_locations h o x)
+locations_keeps h o x =
+    keeps_if (has x.locations h.worker.node) h (looks_here_by h o x (copy_in (store_here h) o (settled_number x))) (looks_elsewhere h o x) (here_keeps h o x (copy_in (store_here h) o (settled_number x)))
+    (elsewhere_keeps h o x (live_location h.worker x.locations))
 
 looks_keeps : (h : WorkerContext) (o : Id) (x : Object) (r : Option Outcome) → KeepsSettled h (looks_for_by h o x r)
-looks_keeps h o x None = places_keeps h o x
+looks_keeps h o x None = locations_keeps h o x
 looks_keeps h o x (Some c) = gets_keeps h c
 
 released_keeps : (h : WorkerContext) (e : Option Id) → KeepsSettled h (needs_released h e)
@@ -208,17 +208,17 @@ needs_own_keeps h o =
 
 -- ---- whoever waits for an object with a content
 
-tells_places_objects : (ws : List ℕ) (h : WorkerContext) (o : Id) (x : Object) → (tells_places h ws o x).worker.objects ≡ h.worker.objects
-tells_places_objects [] h o x = refl
-tells_places_objects (w ∷ ws) h o x = tells_places_objects ws (says h w (At o (settled_number x) x.places x.kept)) o x
+tells_locations_objects : (ws : List ℕ) (h : WorkerContext) (o : Id) (x : Object) → (tells_locations h ws o x).worker.objects ≡ h.worker.objects
+tells_locations_objects [] h o x = refl
+tells_locations_objects (w ∷ ws) h o x = tells_locations_objects ws (says h w (At o (settled_number x) x.locations x.kept)) o x
 
 answers_by_keeps : (h : WorkerContext) (o : Id) (x : Option Object) → KeepsSettled h (answers_settled_by h o x)
 answers_by_keeps h o None = keeps_all h
 answers_by_keeps h o (Some x) =
     let g : WorkerContext = changes h o without_askers in
-    let k : WorkerContext = tells_places g x.askers o x in
+    let k : WorkerContext = tells_locations g x.askers o x in
     keeps_then h g (needs_own_if_waiting k o) (keeps_changed h o without_askers (λ y. refl))
-    (keeps_then g k (needs_own_if_waiting k o) (keeps_same g k (tells_places_objects x.askers g o x)) (keeps_if (is_waiting_for k.worker o) k (needs_own k o) k (needs_own_keeps k o) (keeps_all k)))
+    (keeps_then g k (needs_own_if_waiting k o) (keeps_same g k (tells_locations_objects x.askers g o x)) (keeps_if (is_waiting_for k.worker o) k (needs_own k o) k (needs_own_keeps k o) (keeps_all k)))
 
 pub answers_keeps : (h : WorkerContext) (o : Id) → KeepsSettled h (answers_settled h o)
 answers_keeps h o = answers_by_keeps h o (object_at h o)

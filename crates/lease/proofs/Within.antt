@@ -17,7 +17,7 @@ fewer : (p : ℕ → Bool) (xs : List ℕ) → length (filter p xs) ≤ length x
 fewer p [] = omega arith
 fewer p (x ∷ xs) = shorter (p x) x (filter p xs) xs (fewer p xs)
 
-room : (h : NodeContext) → has_free_slot h.node.scheduler ≡ true → length h.node.scheduler.holders + 1 ≤ h.node.scheduler.slots
+room : (h : NodeContext) → has_free_slot h.node.scheduler ≡ true → length h.node.scheduler.slot_holders + 1 ≤ h.node.scheduler.slots
 room h e = grind (arith, nat_tests)
 
 one_more : (xs : List ℕ) (w s : ℕ) → length xs + 1 ≤ s → length (xs ++ w ∷ []) ≤ s
@@ -28,14 +28,14 @@ either true x y f g = f refl
 either false x y f g = g refl
 
 idle_leased : (h : NodeContext) (k : AskKey) (w : Option ℕ) → has_free_slot h.node.scheduler ≡ true → IsWithinSlots (leases_idle h k w)
-idle_leased h k None e = one_more h.node.scheduler.holders _ _ (room h e)
-idle_leased h k (Some w) e = one_more h.node.scheduler.holders _ _ (room h e)
+idle_leased h k None e = one_more h.node.scheduler.slot_holders _ _ (room h e)
+idle_leased h k (Some w) e = one_more h.node.scheduler.slot_holders _ _ (room h e)
 
 worker_given : (h : NodeContext) (k : AskKey) → has_free_slot h.node.scheduler ≡ true → IsWithinSlots (gives_worker h k)
 worker_given h k e = idle_leased h k (least h.node.scheduler.idle) e
 
 no_slot : (h : NodeContext) (k : AskKey) → IsWithinSlots h → IsWithinSlots (has_no_slot_for h k)
-no_slot h k i = either (nat_lt (k.t + 1) h.nodes) _ _ (λ _. i) (λ _. i)
+no_slot h k i = either (nat_lt (k.hops + 1) h.nodes) _ _ (λ _. i) (λ _. i)
 
 asked_by_within : (h : NodeContext) (k : AskKey) (x : Option AskReply) → IsWithinSlots h → IsWithinSlots (asked_by h k x)
 asked_by_within h k None i = either (has_free_slot h.node.scheduler) _ _ (worker_given h k) (λ _. no_slot h k i)
@@ -47,15 +47,15 @@ queued_granted h (Some k) i e = worker_given (with_scheduler h (record h.node.sc
 
 next_granted : (h : NodeContext) (w : Option ℕ) → IsWithinSlots h → has_free_slot h.node.scheduler ≡ true → IsWithinSlots (grants_next h w)
 next_granted h None i e = queued_granted h (first_item h.node.scheduler.queue) i e
-next_granted h (Some w) i e = one_more h.node.scheduler.holders w _ (room h e)
+next_granted h (Some w) i e = one_more h.node.scheduler.slot_holders w _ (room h e)
 
 granted : (h : NodeContext) → IsWithinSlots h → IsWithinSlots (grants h)
 granted h i = either (has_free_slot h.node.scheduler) _ _ (next_granted h (first_item h.node.scheduler.answered) i) (λ _. i)
 
 freed : (h : NodeContext) (w : ℕ) → IsWithinSlots h → IsWithinSlots (frees h w)
 freed h w i =
-    let e : length (without_number h.node.scheduler.holders w) ≤ length h.node.scheduler.holders = fewer _ h.node.scheduler.holders in
-    either (has h.node.scheduler.holders w) _ _ (λ _. granted (with_scheduler h (without_slot h.node.scheduler w)) (omega (arith, e, i))) (λ _. i)
+    let e : length (without_number h.node.scheduler.slot_holders w) ≤ length h.node.scheduler.slot_holders = fewer _ h.node.scheduler.slot_holders in
+    either (has h.node.scheduler.slot_holders w) _ _ (λ _. granted (with_scheduler h (without_slot h.node.scheduler w)) (omega (arith, e, i))) (λ _. i)
 
 -- ---- what the public calls come to
 
@@ -72,7 +72,7 @@ freed_within g h w e i = subst IsWithinSlots (sym e) (freed h w i)
 pub slot_within : (g h : NodeContext) (w : ℕ) → g ≡ asks_slot h w → IsWithinSlots h → IsWithinSlots g
 slot_within g h w e i =
     subst IsWithinSlots (sym e)
-    (either (has h.node.scheduler.holders w || has h.node.scheduler.answered w) h _ (λ _. i) (λ _. granted (with_scheduler h (with_answered h.node.scheduler w)) i))
+    (either (has h.node.scheduler.slot_holders w || has h.node.scheduler.answered w) h _ (λ _. i) (λ _. granted (with_scheduler h (with_answered h.node.scheduler w)) i))
 
 pub forgot_within : (g h : NodeContext) (w : ℕ) → g ≡ forgets h w → IsWithinSlots h → IsWithinSlots g
 forgot_within g h w e i = subst IsWithinSlots (sym e) (freed (with_scheduler h (without_worker h.node.scheduler w)) w i)

@@ -4,7 +4,7 @@ use Rattle.number_lists.specs.of_protocol.Nodes.{NodeContext, with_node}
 
 -- no more attempts have a slot than there are slots
 abbrev pub IsWithinSlots : NodeContext → Type 0
-IsWithinSlots h = length h.node.scheduler.holders ≤ h.node.scheduler.slots
+IsWithinSlots h = length h.node.scheduler.slot_holders ≤ h.node.scheduler.slots
 
 -- g is h, but for the copies in the store
 abbrev pub IsButStore : NodeContext → NodeContext → Type 0

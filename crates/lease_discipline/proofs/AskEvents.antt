@@ -79,7 +79,7 @@ asked_keys t k None =
     at_test (λ b. KeysAnd k (sch t) (sch (if b then gives_worker t k else has_no_slot_for t k))) (has_free_slot (sch t))
     (λ _. leases_keys t k (least (sch t).idle))
     (λ _. at_test (λ b. KeysAnd k (sch t) (sch (if b then replies_anew t k (SentOn (next_in_circle t.nodes t.number)) else queues t k)))
-    (nat_lt (k.t + 1) t.nodes)
+    (nat_lt (k.hops + 1) t.nodes)
     (λ _ j x e. replied_keys (sch t).asks k _ j x e) (λ _ j x e. replied_keys (sch t).asks k _ j x e))
 asked_keys t k (Some y) = λ j x e. inl (x, e)
 
@@ -107,12 +107,12 @@ grants_keys t q =
 
 frees_keys : (t : NodeContext) (w : ℕ) → QueueIsRight (sch t).asks (sch t).queue → Keys (sch t) (sch (frees t w))
 frees_keys t w q =
-    at_test (λ b. Keys (sch t) (sch (if b then grants (with_scheduler t (without_slot (sch t) w)) else t))) (has (sch t).holders w)
+    at_test (λ b. Keys (sch t) (sch (if b then grants (with_scheduler t (without_slot (sch t) w)) else t))) (has (sch t).slot_holders w)
     (λ _ j x e. grants_keys (with_scheduler t (without_slot (sch t) w)) q j x e) (λ _. same_keys (sch t))
 
 slot_keys : (t : NodeContext) (w : ℕ) → QueueIsRight (sch t).asks (sch t).queue → Keys (sch t) (sch (asks_slot t w))
 slot_keys t w q =
-    at_test (λ b. Keys (sch t) (sch (if b then t else grants (with_scheduler t (with_answered (sch t) w))))) (has (sch t).holders w || has (sch t).answered w)
+    at_test (λ b. Keys (sch t) (sch (if b then t else grants (with_scheduler t (with_answered (sch t) w))))) (has (sch t).slot_holders w || has (sch t).answered w)
     (λ _. same_keys (sch t)) (λ _ j x e. grants_keys (with_scheduler t (with_answered (sch t) w)) q j x e)
 
 pub forgets_keys : (t : NodeContext) (w : ℕ) → QueueIsRight (sch t).asks (sch t).queue → Keys (sch t) (sch (forgets t w))
@@ -177,7 +177,7 @@ module _ (c d : ClusterState) (n : ℕ) (node : Node) (t : NodeContext) (stood :
     (there_too : (v : ℕ) (y : Worker) → worker_at c v ≡ Some y → (z : Worker) × (worker_at d v ≡ Some z))
     (closed : (a : Attempt) (w : ℕ) → Pushed (d.network ++ t.out.envelopes) a w → A.IsClosed (IsDeadNode c) (d.network ++ t.out.envelopes) a w)
     (owned : (a : Attempt) → A.Touched (d.network ++ t.out.envelopes) a → (y : Worker) × (worker_at c a.object.owner ≡ Some y))
-    (asked : (k : AskKey) (x : AskReply) → reply_to t.node.scheduler k ≡ Some x → A.Asked (d.network ++ t.out.envelopes) k.attempt k.t n) where
+    (asked : (k : AskKey) (x : AskReply) → reply_to t.node.scheduler k ≡ Some x → A.Asked (d.network ++ t.out.envelopes) k.attempt k.hops n) where
   abbrev after : ClusterState
   after = (after_node d n t).whole
 
@@ -201,7 +201,7 @@ module _ (c d : ClusterState) (n : ℕ) (node : Node) (t : NodeContext) (stood :
   pub asks_end : KeepsAsks after
   asks_end = record {
     nodes = λ m node_m k x e r. elim (changed_cases d.nodes n m (λ _. t.node) node_m e) [
-      | inl (same, _, _, is) ↦ subst (λ i. A.Asked after.network k.attempt k.t i) (sym same)
+      | inl (same, _, _, is) ↦ subst (λ i. A.Asked after.network k.attempt k.hops i) (sym same)
           (asked k x (ap (λ (y : Node). reply_to y.scheduler k) (sym is) ∙ r))
       | inr (_, at) ↦ earlier m node_m k x at r
     ];
@@ -211,20 +211,20 @@ module _ (c d : ClusterState) (n : ℕ) (node : Node) (t : NodeContext) (stood :
           (new_owns (IsDeadNode after) after.network v n (λ k j touched. not_there v none (owned _ touched)))
     ];
     closed = λ a w e. let k = closed a w e in record {
-      t = k.t;
+      hops = k.hops;
       node = k.node;
       given = k.given;
-      last = last_dead (IsDeadNode c) (IsDeadNode after) after.network a k.t k.node dead_more k.last;
+      last = last_dead (IsDeadNode c) (IsDeadNode after) after.network a k.hops k.node dead_more k.last;
     };
     owned = λ a e. let y = owned a e in let z = there_too _ y.0 y.1 in (z.0, there_more d.workers (repeated t.opened (new_worker n)) _ z.0 z.1);
   }
     where
-      earlier : (m : ℕ) (k' : Node) (k : AskKey) (x : AskReply) → node_at d m ≡ Some k' → reply_to k'.scheduler k ≡ Some x → A.Asked after.network k.attempt k.t m
+      earlier : (m : ℕ) (k' : Node) (k : AskKey) (x : AskReply) → node_at d m ≡ Some k' → reply_to k'.scheduler k ≡ Some x → A.Asked after.network k.attempt k.hops m
       earlier m k' k x at r =
           let old = keeps.nodes m k' k x (subst (λ ns. item_at ns m ≡ Some k') same_nodes at) r in (
             old.0,
-            among-more d.network t.out.envelopes (envelope (TheWorker old.0) (TheNode m) (Ask k.attempt k.t))
-                (subst (λ ls. Among (envelope (TheWorker old.0) (TheNode m) (Ask k.attempt k.t)) ls) (sym same_network) old.1),
+            among-more d.network t.out.envelopes (envelope (TheWorker old.0) (TheNode m) (Ask k.attempt k.hops))
+                (subst (λ ls. Among (envelope (TheWorker old.0) (TheNode m) (Ask k.attempt k.hops)) ls) (sym same_network) old.1),
           )
 
       not_there : (v : ℕ) → worker_at d v ≡ None → (y : Worker) × (worker_at c v ≡ Some y) → ⊥
@@ -309,7 +309,7 @@ module _ (c : ClusterState) (me : ℕ) (x : Worker) (at : worker_at c me ≡ Som
         (λ k r e.
         let old = b.keys k r e in
         let asked = keeps.nodes x.node node k old.0 home old.1 in
-        (asked.0, among-more c.network g.there.out.envelopes (envelope (TheWorker asked.0) (TheNode x.node) (Ask k.attempt k.t)) asked.1))
+        (asked.0, among-more c.network g.there.out.envelopes (envelope (TheWorker asked.0) (TheNode x.node) (Ask k.attempt k.hops)) asked.1))
 
 abbrev pub Steps : ClusterState → ℕ → (WorkerContext → WorkerContext) → Type 0
 Steps c w f = (x : Worker) (at : worker_at c w ≡ Some x) (node : Node) → node_at c x.node ≡ Some node → Q c w x at (here c w x node) →

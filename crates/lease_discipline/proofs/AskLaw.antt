@@ -84,7 +84,7 @@ node_asks : (c d : ClusterState) (n : ℕ) (f : NodeContext → NodeContext) →
     ((Q : NodeContext → Type 0) → IsKeptThere Q → (t : NodeContext) → Q t → Q (f t)) →
     ((v : ℕ) (y : Worker) → worker_at d v ≡ Some y → OwnsAsks (IsDeadNode c) d.network v y) →
     ((v : ℕ) (y : Worker) → worker_at c v ≡ Some y → (z : Worker) × (worker_at d v ≡ Some z)) →
-    ((node : Node) → node_at d n ≡ Some node → (k : AskKey) (x : AskReply) → reply_to (sch (f (there d n node))) k ≡ Some x → A.Asked d.network k.attempt k.t n) →
+    ((node : Node) → node_at d n ≡ Some node → (k : AskKey) (x : AskReply) → reply_to (sch (f (there d n node))) k ≡ Some x → A.Asked d.network k.attempt k.hops n) →
     KeepsAsks c → KeepsAsks d → KeepsAsks (node_does d n f).whole
 node_asks c d n f nodes network moves mine too asked k kd = by_node (node_at d n) refl
   where
@@ -106,25 +106,25 @@ node_asks c d n f nodes network moves mine too asked k kd = by_node (node_at d n
               (subst (λ ls. A.Touched ls a) network h)
           | inr h ↦ absurd h
         ])
-        (λ key x r. let q = asked node e key x r in (q.0, among-more d.network t.out.envelopes (envelope (TheWorker q.0) (TheNode n) (Ask key.attempt key.t)) q.1))
+        (λ key x r. let q = asked node e key x r in (q.0, among-more d.network t.out.envelopes (envelope (TheWorker q.0) (TheNode n) (Ask key.attempt key.hops)) q.1))
 
 -- what a node answers after a message, it was asked
 reached_keys : (d : ClusterState) (n : ℕ) (node : Node) (from : Endpoint) (m : Message) → node_at d n ≡ Some node → KeepsAsks d →
     Among (envelope from (TheNode n) m) d.network →
-    (k : AskKey) (x : AskReply) → reply_to (sch (node_reached (there d n node) from m)) k ≡ Some x → A.Asked d.network k.attempt k.t n
+    (k : AskKey) (x : AskReply) → reply_to (sch (node_reached (there d n node) from m)) k ≡ Some x → A.Asked d.network k.attempt k.hops n
 reached_keys d n node (TheNode i) m at keeps came k x e = keeps.nodes n node k x at e
 reached_keys d n node (TheWorker u) (Ask a i) at keeps came k x e =
     elim (asked_keys (there d n node) (ask_key a i) (reply_to node.scheduler (ask_key a i)) k x e) [
       | inl f ↦ keeps.nodes n node k f.0 at f.1
-      | inr same ↦ subst (λ (j : AskKey). A.Asked d.network j.attempt j.t n) same (u, came)
+      | inr same ↦ subst (λ (j : AskKey). A.Asked d.network j.attempt j.hops n) same (u, came)
     ]
 reached_keys d n node (TheWorker u) (Back a) at keeps came k x e =
     at_test (λ b. reply_to (sch (if b then with_scheduler (there d n node) (with_idle node.scheduler u) else there d n node)) k ≡ Some x →
-    A.Asked d.network k.attempt k.t n)
+    A.Asked d.network k.attempt k.hops n)
     (may_be_idle node.scheduler u a) (λ _ f. keeps.nodes n node k x at f) (λ _ f. keeps.nodes n node k x at f) e
 reached_keys d n node (TheWorker u) (Fetch o number) at keeps came k x e = by_copy (copy_in node.store o number) e
   where
-    by_copy : (o' : Option Outcome) → reply_to (sch (fetched (there d n node) o number u o')) k ≡ Some x → A.Asked d.network k.attempt k.t n
+    by_copy : (o' : Option Outcome) → reply_to (sch (fetched (there d n node) o number u o')) k ≡ Some x → A.Asked d.network k.attempt k.hops n
     by_copy None f = keeps.nodes n node k x at f
     by_copy (Some y) f = keeps.nodes n node k x at f
 reached_keys d n node (TheWorker u) (Unhold i o why) at keeps came k x e = keeps.nodes n node k x at e
@@ -181,10 +181,10 @@ changed_asks c workers nodes back forth replies dead_too k =
           owns_dead (IsDeadNode c) (IsDeadNode d) c.network v y dead_too
           (owns_same (IsDeadNode c) c.network v b.0 y (λ i. ap (λ ys. task_of (item_at ys i)) b.2) (k.owners v b.0 b.1));
       closed = λ a w e. let q = k.closed a w e in record {
-        t = q.t;
+        hops = q.hops;
         node = q.node;
         given = q.given;
-        last = last_dead (IsDeadNode c) (IsDeadNode d) c.network a q.t q.node dead_too q.last;
+        last = last_dead (IsDeadNode c) (IsDeadNode d) c.network a q.hops q.node dead_too q.last;
       };
       owned = λ a e. let y = k.owned a e in forth _ y.0 y.1;
     }
@@ -348,7 +348,7 @@ opens-asks nodes slots = record {
 }
   where
     with_slot : Node → Node
-    with_slot x = record x { scheduler = record x.scheduler { holders = 1 ∷ [] } }
+    with_slot x = record x { scheduler = record x.scheduler { slot_holders = 1 ∷ [] } }
 
     new : (n : ℕ) (y : Node) → item_at (repeated nodes (new_node slots)) n ≡ Some y → new_node slots ≡ y
     new n y at = one_of 1 nodes n (new_node slots) y (counted (repeated nodes (new_node slots)) n at)

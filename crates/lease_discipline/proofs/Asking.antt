@@ -107,7 +107,7 @@ owns_more dead b s t v x o not q = record {
 
 pub closed_more : (dead : ℕ → Type 0) (b : Attempt → Type 0) (s t : List Envelope) (a : Attempt) (w : ℕ) → TouchesOnly b s t → (b a → ⊥) →
     IsClosed dead s a w → IsClosed dead t a w
-closed_more dead b s t a w o not q = record { t = q.t; node = q.node; given = o.more _ q.given; last = last_more dead b s t a q.t q.node o not q.last }
+closed_more dead b s t a w o not q = record { hops = q.hops; node = q.node; given = o.more _ q.given; last = last_more dead b s t a q.hops q.node o not q.last }
 
 -- ---- tables
 
@@ -593,7 +593,7 @@ module _ (c : ClusterState) (me : ℕ) (old : Worker) (there : item_at c.workers
 
       closed_so : (b : Attempt) (v : ℕ) → IsClosed dead (sent_so h) b v → IsClosed dead s' b v
       closed_so b v k = record {
-        t = k.t;
+        hops = k.hops;
         node = k.node;
         given = envelope_more c.network h.there.out.envelopes _ _ k.given;
         last = λ i m e. elim (k.last i m (push_asked h w a b spec i m e)) [
@@ -728,7 +728,7 @@ module _ (c : ClusterState) (me : ℕ) (old : Worker) (there : item_at c.workers
       subst (λ i. Among (envelope (TheNode n) (TheWorker (attempt i task.number).object.owner) (Give (attempt i task.number) t w)) (sent_so h)) is
       (so_more h _ given.given) in
       let closed : IsClosed dead (sent_so h) a w = record {
-        t = t;
+        hops = t;
         node = n;
         given = gave;
         last = subst (λ j. IsLast dead (sent_so h) a t j) (sym node) last;

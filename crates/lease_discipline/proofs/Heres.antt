@@ -291,19 +291,19 @@ module _ (c : ClusterState) (me n : ℕ) (old : Worker) (there : item_at c.worke
       id_of : (i : ℕ) → i ≡ o.serial → o ≡ object_id me i
       id_of i e = let f : o.owner ≡ me = own ∙ d.who in ap (λ u. object_id u o.serial) f ∙ ap (object_id me) (sym e)
 
-      same_places : (v q : ℕ) → RunsOn w m ≡ RunsOn v q → (w ≡ v) × (m ≡ q)
-      same_places v q e = (cc, cc)
+      same_locations : (v q : ℕ) → RunsOn w m ≡ RunsOn v q → (w ≡ v) × (m ≡ q)
+      same_locations v q e = (cc, cc)
 
       new_task_runs : (i : ℕ) (t : OwnTask) (v q : ℕ) → i ≡ o.serial → ◌≡◌ {A = Option OwnTask} (Some (with_begun task w m)) (Some t) →
           t.progress ≡ RunsOn v q → Gave (sent_here h) q (attempt (object_id me i) t.number) v
       new_task_runs i t v q e f p =
           let is : with_begun task w m ≡ t = cc in
-          let places = same_places v q (ap (λ (u : OwnTask). u.progress) is ∙ p) in
+          let locations = same_locations v q (ap (λ (u : OwnTask). u.progress) is ∙ p) in
           let a : attempt o task.number ≡ attempt (object_id me i) t.number =
           ap (λ u. attempt u task.number) (id_of i e) ∙ ap (λ (u : OwnTask). attempt (object_id me i) u.number) is in
           let given_here : Gave (sent_here h) m (attempt o task.number) w = gave_more c.network (sent_here h) m (attempt o task.number) w (was_sent h) given in
-          subst (λ u. Gave (sent_here h) u (attempt (object_id me i) t.number) v) places.1
-          (subst (λ u. Gave (sent_here h) m (attempt (object_id me i) t.number) u) places.0 (subst (λ b. Gave (sent_here h) m b w) a given_here))
+          subst (λ u. Gave (sent_here h) u (attempt (object_id me i) t.number) v) locations.1
+          (subst (λ u. Gave (sent_here h) m (attempt (object_id me i) t.number) u) locations.0 (subst (λ b. Gave (sent_here h) m b w) a given_here))
 
       by_item : (i : ℕ) (t : OwnTask) (v q : ℕ) → t.progress ≡ RunsOn v q → (x : Option Object) →
           item_at (with_task_of h o (with_begun task w m)).worker.objects i ≡ x → task_of x ≡ Some t →

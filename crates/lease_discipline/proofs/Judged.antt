@@ -100,7 +100,7 @@ tick_owes_nothing s = record {
   requests = λ w y m number n b is known kept. absurd (no_delivery b.0 b.1);
   accepted = λ y number n w m at logged came is. absurd (among-nothing _ logged);
   owner = λ y part number a born logged waits. absurd (among-nothing _ logged);
-  places = λ w a y number nodes content foreign b waits. absurd (no_delivery b.0 b.1);
+  locations = λ w a y number nodes content foreign b waits. absurd (no_delivery b.0 b.1);
   copies = λ n w a y number c b waits. absurd (no_delivery b.0 b.1);
   missing = λ n w y number m foreign b. absurd (no_delivery b.0 b.1);
   fetches = λ n w y number b. absurd (no_delivery b.0 b.1);
@@ -119,7 +119,7 @@ first_ready s = record { node = 1; lives = record { place = refl; lives = refl }
 slotless : (s : Setting) → IsReady (scene s opening [] []) 1 → ⊥
 slotless s r = none r.node r.slot
   where
-    none : (n : ℕ) → has ((scene s opening [] []).holders n) 1 ≡ true → ⊥
+    none : (n : ℕ) → has ((scene s opening [] []).slot_holders n) 1 ≡ true → ⊥
     none n e = at_test (λ b. has (if b then [] else []) 1 ≡ true → ⊥) (n == 1) (λ _ f. absurd (cc)) (λ _ f. absurd (cc)) e
 
 pub claims_are_judged : ClaimsAreJudged
@@ -158,7 +158,7 @@ ticks_owe_nothing = tick_owes_nothing
 -- ---- slots
 
 ask_stands : (s : Setting) → AskStands (scene s given_log waiting_network []) 1
-ask_stands s = record { attempt = first_one; t = 0; waits = (1, refl); ungiven = λ w g. none w g }
+ask_stands s = record { attempt = first_one; hops = 0; waits = (1, refl); ungiven = λ w g. none w g }
   where
     none : (w : ℕ) → Among (envelope (TheNode 1) (TheWorker 1) (Give first_one 0 w)) waiting_network → ⊥
     none w (zero, e) =

@@ -25,7 +25,7 @@ use Rattle.protocol_laws.proofs.of_smallest_steps.Smallest.{KeepsHere, KeepsAcce
 use Rattle.protocol_laws.proofs.of_smallest_steps.Moves as S
 use Rattle.protocol_laws.specs.of_protocol_owed.Told.{pace_in}
 use Rattle.protocol_laws.proofs.of_protocol_owed.RunMoves.{Alike}
-use Rattle.lease_discipline.proofs.Tame.{LeavesTasks, places_left, put_left, same_left, untouched_left}
+use Rattle.lease_discipline.proofs.Tame.{LeavesTasks, locations_left, put_left, same_left, untouched_left}
 
 -- a message that says nothing of leases, and nothing of an attempt that is over
 abbrev pub is_plain : Message → Bool
@@ -103,7 +103,7 @@ module _ (IsToldBy : ℕ → Attempt → Type 0) (IsOverOf : Attempt → Type 0)
     answered = λ h o x _ _ p. kept.objects h _ (untouched_left h.worker o.serial without_askers (λ y. refl)) p;
     resolved = λ h o f p. kept.writes _ _ (kept.objects h _ (untouched_left h.worker o.serial (with_fault f) (λ y. refl)) p);
     freed = λ h o p. kept.writes h _ p;
-    places_lost = λ h m p. kept.objects h _ (places_left h.worker m) p;
+    locations_lost = λ h m p. kept.objects h _ (locations_left h.worker m) p;
     worker_dead = λ h v p. kept.objects h _ (same_left h.worker (with_dead_worker h v).worker refl refl refl refl refl) p;
     node_dead = λ h m p. kept.objects h _ (same_left h.worker (with_dead_node h m).worker refl refl refl refl refl) p;
     looked = λ h o number p. kept.store h _ p;

@@ -77,8 +77,8 @@ IsUnwanted look sent n w = (a : Attempt) → IsWanted look sent n w a → ⊥
 -- s becomes t: no worker is newly idle or leased, no idle one gets a slot or asks for one, and none that is wanted loses its slot or its lease
 pub record Lessens (look : Look) (sent : List Envelope) (n : ℕ) (s t : Scheduler) : Type 0 where
   pub idle : (w : ℕ) → has t.idle w ≡ true → has s.idle w ≡ true
-  pub slotless : (w : ℕ) → has t.idle w ≡ true → has s.holders w ≡ false → has s.answered w ≡ false → (has t.holders w ≡ false) × (has t.answered w ≡ false)
-  pub slots : (w : ℕ) (a : Attempt) → IsWanted look sent n w a → has s.holders w ≡ true → has t.holders w ≡ true
+  pub slotless : (w : ℕ) → has t.idle w ≡ true → has s.slot_holders w ≡ false → has s.answered w ≡ false → (has t.slot_holders w ≡ false) × (has t.answered w ≡ false)
+  pub slots : (w : ℕ) (a : Attempt) → IsWanted look sent n w a → has s.slot_holders w ≡ true → has t.slot_holders w ≡ true
   pub leases : (w : ℕ) (a : Attempt) → is_latest_lease t w a ≡ true → is_latest_lease s w a ≡ true
   pub leased : (w : ℕ) (a : Attempt) → IsWanted look sent n w a → is_latest_lease s w a ≡ true → is_latest_lease t w a ≡ true
   pub replied : (k : AskKey) (w : ℕ) → reply_to t k ≡ Some (Leased w) → reply_to s k ≡ Some (Leased w)
@@ -130,10 +130,10 @@ module _ (look : Look) (sent : List Envelope) (n : ℕ) where
   taken_lessens s w first k = record {
     idle = λ v e. e;
     slotless = λ v e f g. (
-      has_not-push s.holders w v f (λ same. both_ways (has s.answered v) g (ap (has s.answered) (sym same) ∙ has-first s.answered w first)),
+      has_not-push s.slot_holders w v f (λ same. both_ways (has s.answered v) g (ap (has s.answered) (sym same) ∙ has-first s.answered w first)),
       false_from_ne_true _ (λ h. both_ways _ g (has-rest s.answered v h)),
     );
-    slots = λ v a _ e. list_any-push_left (λ y. y == v) s.holders w e;
+    slots = λ v a _ e. list_any-push_left (λ y. y == v) s.slot_holders w e;
     leases = λ v a e. e;
     leased = λ v a _ e. e;
     replied = λ key v e. e;
@@ -143,8 +143,8 @@ module _ (look : Look) (sent : List Envelope) (n : ℕ) where
   pub slot_lessens : (s : Scheduler) (w : ℕ) → IsUnwanted look sent n w → Lessens look sent n s (without_slot s w)
   slot_lessens s w unwanted = record {
     idle = λ v e. e;
-    slotless = λ v e f g. (false_from_ne_true _ (λ h. both_ways _ f (has-left s.holders w v h)), g);
-    slots = λ v a wanted e. has-stays s.holders w v (λ same. unwanted a (subst (λ u. IsWanted look sent n u a) (sym same) wanted)) e;
+    slotless = λ v e f g. (false_from_ne_true _ (λ h. both_ways _ f (has-left s.slot_holders w v h)), g);
+    slots = λ v a wanted e. has-stays s.slot_holders w v (λ same. unwanted a (subst (λ u. IsWanted look sent n u a) (sym same) wanted)) e;
     leases = λ v a e. e;
     leased = λ v a _ e. e;
     replied = λ key v e. e;
@@ -175,12 +175,12 @@ module _ (look : Look) (sent : List Envelope) (n : ℕ) where
   -- ---- Back
 
   slotless_now : (s : Scheduler) (w : ℕ) (a : Attempt) → may_be_idle s w a ≡ true →
-      (is_latest_lease s w a ≡ true) × (has s.holders w ≡ false) × (has s.answered w ≡ false)
+      (is_latest_lease s w a ≡ true) × (has s.slot_holders w ≡ false) × (has s.answered w ≡ false)
   slotless_now s w a e =
-      let b = and_left (is_latest_lease s w a && not (has s.holders w)) (not (has s.answered w)) e in (
-        and_left (is_latest_lease s w a) (not (has s.holders w)) b,
-        negated _ (and_right (is_latest_lease s w a) (not (has s.holders w)) b),
-        negated _ (and_right (is_latest_lease s w a && not (has s.holders w)) (not (has s.answered w)) e),
+      let b = and_left (is_latest_lease s w a && not (has s.slot_holders w)) (not (has s.answered w)) e in (
+        and_left (is_latest_lease s w a) (not (has s.slot_holders w)) b,
+        negated _ (and_right (is_latest_lease s w a) (not (has s.slot_holders w)) b),
+        negated _ (and_right (is_latest_lease s w a && not (has s.slot_holders w)) (not (has s.answered w)) e),
       )
     where
       negated : (b : Bool) → not b ≡ true → b ≡ false
@@ -268,7 +268,7 @@ module _ (look : Look) (sent : List Envelope) (n : ℕ) where
             free = subst (λ (z : Worker). is_free z.run ≡ true) j free;
             leased = leased;
             sole = sole;
-            slot = has-last s.holders w;
+            slot = has-last s.slot_holders w;
           })
     ]
 
@@ -282,7 +282,7 @@ module _ (look : Look) (sent : List Envelope) (n : ℕ) where
             leased = list_any-push_left (λ (l : Lease). (l.worker == v) && same_attempt l.attempt a) (without_lease w s.leases)
                 (record { worker = w; attempt = k.attempt }) (lease-stays s.leases w v a apart p.leased);
             sole = λ b e. elim (lease-cases v b e) [ inl f ↦ p.sole b f | inr (f, _) ↦ absurd (apart (sym f)) ];
-            slot = list_any-push_left (λ u. u == v) s.holders w p.slot;
+            slot = list_any-push_left (λ u. u == v) s.slot_holders w p.slot;
           }
       | inr (_, same) ↦ absurd (apart (sym same))
     ]
@@ -296,7 +296,7 @@ module _ (look : Look) (sent : List Envelope) (n : ℕ) where
             there = i.there;
             home = i.home;
             free = i.free;
-            slotless = has_not-push s.holders w v i.slotless (λ same. both_ways _ (ap (has (without_number s.idle w)) (sym same) ∙ has-gone s.idle w) e);
+            slotless = has_not-push s.slot_holders w v i.slotless (λ same. both_ways _ (ap (has (without_number s.idle w)) (sym same) ∙ has-gone s.idle w) e);
             unanswered = i.unanswered;
           };
       promised = λ v y a there live gave unbegun.

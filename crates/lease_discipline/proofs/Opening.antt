@@ -40,8 +40,8 @@ driver_keeps = record {
     none zero task e = cc
     none (suc i) task e = cc
 
-new_keeps : (nodes slots n : ℕ) (holders : List ℕ) → NodeKeeps (worker_at (first_whole nodes slots)) [] n (record (new_scheduler slots) { holders = holders })
-new_keeps nodes slots n holders = record {
+new_keeps : (nodes slots n : ℕ) (slot_holders : List ℕ) → NodeKeeps (worker_at (first_whole nodes slots)) [] n (record (new_scheduler slots) { slot_holders = slot_holders })
+new_keeps nodes slots n slot_holders = record {
   idle = λ w e. absurd (cc);
   promised = λ w x a at live gave unbegun. absurd (among-nothing _ gave.1);
   busy = λ w x run at home e over b f. absurd (cc);
@@ -76,4 +76,4 @@ opens nodes slots some = record {
     start = first_whole nodes slots
 
     with_slot : Node → Node
-    with_slot node = record node { scheduler = record node.scheduler { holders = 1 ∷ [] } }
+    with_slot node = record node { scheduler = record node.scheduler { slot_holders = 1 ∷ [] } }

@@ -168,7 +168,7 @@ module _ (c : ClusterState) (me n : ℕ) (old : Worker) (there : item_at c.worke
         let k = d.goes.there in
         record {
           idle = λ w e. let i = k.idle w e in elim (by_number w me) [
-            | inl same ↦ absurd (both_ways (has h.there.node.scheduler.holders me) (ap (has h.there.node.scheduler.holders) (sym same) ∙ i.slotless) promise.slot)
+            | inl same ↦ absurd (both_ways (has h.there.node.scheduler.slot_holders me) (ap (has h.there.node.scheduler.slot_holders) (sym same) ∙ i.slotless) promise.slot)
             | inr apart ↦ record {
               worker = i.worker;
               there = elsewhere w apart ∙ i.there;
@@ -296,7 +296,7 @@ module _ (c : ClusterState) (me n : ℕ) (old : Worker) (there : item_at c.worke
   no_node : (v k : ℕ) → ◌≡◌ {A = Endpoint} (TheNode k) (TheWorker v) → ⊥
   no_node v k e = cc
 
-  -- a envelope of a worker gives nobody
+  -- an envelope of a worker gives nobody
   says_stops : (h : WorkerContext) (to : Endpoint) (m : Message) → StopsHere h → StopsHere (record h { there = posts h.there (envelope (TheWorker h.me) to m) })
   says_stops h to m p = record {
     pace = p.pace;

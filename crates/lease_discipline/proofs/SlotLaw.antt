@@ -21,7 +21,7 @@ use Rattle.lease_discipline.specs.Discipline.{Gave, IsOfNode}
 use Rattle.lease_discipline.specs.Slots.{AreRight, KeepsSlots, LawOfKeptSlots, SlotsAreKept}
 use Rattle.lease_discipline.specs.Told.{IsInStep}
 use Rattle.lease_discipline.proofs.Opening.{only_driver}
-use Rattle.lease_discipline.proofs.Told.{events_stay_in_step, lives_there, logs_tell, opening_is_in_step, places}
+use Rattle.lease_discipline.proofs.Told.{events_stay_in_step, lives_there, logs_tell, opening_is_in_step, locations}
 use Rattle.lease_discipline.proofs.TurnEvents.{events_keep_turns}
 
 -- ---- the opening
@@ -33,18 +33,18 @@ opens-turns nodes slots n node at = record {
   ready = λ w x there home live ready.
       let d = only_driver w x there in
       let one : 1 ≡ n = ap (λ (y : Worker). y.node) d.1 ∙ home in
-      inl (subst (λ v. has node.scheduler.holders v ≡ true) (sym d.0) (first_has (subst (λ m. node_at (first_whole nodes slots) m ≡ Some node) (sym one) at)));
+      inl (subst (λ v. has node.scheduler.slot_holders v ≡ true) (sym d.0) (first_has (subst (λ m. node_at (first_whole nodes slots) m ≡ Some node) (sym one) at)));
 }
   where
     with_slot : Node → Node
-    with_slot x = record x { scheduler = record x.scheduler { holders = 1 ∷ [] } }
+    with_slot x = record x { scheduler = record x.scheduler { slot_holders = 1 ∷ [] } }
 
     goes_out : (j : ℕ) → GoesOn ≡ IsOut j → ⊥
     goes_out j e = absurd (cc)
 
-    first_has : node_at (first_whole nodes slots) 1 ≡ Some node → has node.scheduler.holders 1 ≡ true
+    first_has : node_at (first_whole nodes slots) 1 ≡ Some node → has node.scheduler.slot_holders 1 ≡ true
     first_has e = elim (changed_cases (repeated nodes (new_node slots)) 1 1 with_slot node e) [
-      | inl (_, x, _, is) ↦ ap (λ (y : Node). has y.scheduler.holders 1) is
+      | inl (_, x, _, is) ↦ ap (λ (y : Node). has y.scheduler.slot_holders 1) is
       | inr (apart, _) ↦ absurd (apart refl)
     ]
 
@@ -76,7 +76,7 @@ module _ (s : Setting) (r : Running) (k : RunKeeps s r) (n : ℕ) (node : Node) 
   abbrev sched : Scheduler
   sched = node.scheduler
 
-  seen_slot : (w : ℕ) → has sched.holders w ≡ true → has ((seen s r).holders n) w ≡ true
+  seen_slot : (w : ℕ) → has sched.slot_holders w ≡ true → has ((seen s r).slot_holders n) w ≡ true
   seen_slot w e = ap (λ o. has (holders_in o) w) at ∙ e
 
   -- a live worker of the node
@@ -90,46 +90,46 @@ module _ (s : Setting) (r : Running) (k : RunKeeps s r) (n : ℕ) (node : Node) 
   is_here : (w : ℕ) → LivesOn (seen s r) w n → IsHere w
   is_here w on =
       let x = lives_there s r.log r.whole k.step.sound.between w on.lives in
-      let f : ◌≡◌ {A = Option ℕ} (Some x.0.node) (Some n) = sym (places s r.log r.whole k.step.sound.between w x.0 x.1) ∙ on.place in
+      let f : ◌≡◌ {A = Option ℕ} (Some x.0.node) (Some n) = sym (locations s r.log r.whole k.step.sound.between w x.0 x.1) ∙ on.place in
       record { worker = x.0; there = x.1; lives = x.2; home = cc; told = logs_tell s r.log r.whole k.step w x.0 x.1 x.2 }
 
-  leased_slot : (w : ℕ) → IsHere w → IsLeased (seen s r) w → has sched.holders w ≡ true
+  leased_slot : (w : ℕ) → IsHere w → IsLeased (seen s r) w → has sched.slot_holders w ≡ true
   leased_slot w h l =
       let i : IsOfNode (worker_at r.whole) l.node w = k.step.leases.workers.envelopes _ l.given in
       let f : ◌≡◌ {A = Option Worker} (Some i.worker) (Some h.worker) = sym i.there ∙ h.there in
       let is : i.worker ≡ h.worker = cc in
       let same : l.node ≡ n = sym i.home ∙ ap (λ (x : Worker). x.node) is ∙ h.home in
-      let gave : Gave r.whole.network n l.attempt w = subst (λ m. Gave r.whole.network m l.attempt w) same (l.t, l.given) in
+      let gave : Gave r.whole.network n l.attempt w = subst (λ m. Gave r.whole.network m l.attempt w) same (l.hops, l.given) in
       ((k.step.leases.nodes n node at).promised w h.worker l.attempt h.there h.lives gave (sym (h.told.began l.attempt) ∙ l.unbegun)).slot
 
-  busy_slot : (w : ℕ) → IsHere w → IsBusy (seen s r) w → has sched.holders w ≡ true
+  busy_slot : (w : ℕ) → IsHere w → IsBusy (seen s r) w → has sched.slot_holders w ≡ true
   busy_slot w h (j, out) = (k.slots n node at).out w h.worker j h.there h.home h.lives (sym h.told.pace ∙ out)
 
-  kept_slot : (w : ℕ) → IsHere w → (IsLeased (seen s r) w ⊎ IsBusy (seen s r) w) → has sched.holders w ≡ true
+  kept_slot : (w : ℕ) → IsHere w → (IsLeased (seen s r) w ⊎ IsBusy (seen s r) w) → has sched.slot_holders w ≡ true
   kept_slot w h (inl l) = leased_slot w h l
   kept_slot w h (inr b) = busy_slot w h b
 
   -- one that asks for a slot stands there only where none is free
-  runner_full : length sched.holders ≤ r.whole.slots → RunnerStands (seen s r) n → length sched.holders ≡ r.whole.slots
+  runner_full : length sched.slot_holders ≤ r.whole.slots → RunnerStands (seen s r) n → length sched.slot_holders ≡ r.whole.slots
   runner_full within run =
       let h : IsHere run.worker = is_here run.worker run.lives in
       let ready = (k.slots n node at).ready run.worker h.worker h.there h.home h.lives (sym h.told.pace ∙ run.goes_on) in
-      let none : has sched.holders run.worker ≡ false = sym (ap (λ o. has (holders_in o) run.worker) at) ∙ run.slotless in
+      let none : has sched.slot_holders run.worker ≡ false = sym (ap (λ o. has (holders_in o) run.worker) at) ∙ run.slotless in
       elim ready [
         | inl f ↦ absurd (both_ways _ none f)
         | inr f ↦ full_by (some_answered sched.answered run.worker f)
       ]
     where
-      full_by : 1 ≤ length sched.answered → length sched.holders ≡ r.whole.slots
+      full_by : 1 ≤ length sched.answered → length sched.slot_holders ≡ r.whole.slots
       full_by one =
-          at_test (λ b. nat_lt (length sched.holders) sched.slots ≡ b → length sched.holders ≡ r.whole.slots) (nat_lt (length sched.holders) sched.slots)
+          at_test (λ b. nat_lt (length sched.slot_holders) sched.slots ≡ b → length sched.slot_holders ≡ r.whole.slots) (nat_lt (length sched.slot_holders) sched.slots)
           (λ _ e. let none = (k.full.each n node at).none_free (below e) in absurd (omega (arith, one, none)))
           (λ _ e. let same = (k.right.each n node at).slots in let over = above e in omega (arith, within, same, over)) refl
         where
-          below : nat_lt (length sched.holders) sched.slots ≡ true → length sched.holders < sched.slots
+          below : nat_lt (length sched.slot_holders) sched.slots ≡ true → length sched.slot_holders < sched.slots
           below e = grind (arith, nat_tests)
 
-          above : nat_lt (length sched.holders) sched.slots ≡ false → sched.slots ≤ length sched.holders
+          above : nat_lt (length sched.slot_holders) sched.slots ≡ false → sched.slots ≤ length sched.slot_holders
           above e = grind (arith, nat_tests)
 
   pub slots_kept : SlotsAreSound (seen s r) n → SlotsAreKept (seen s r) n
@@ -140,12 +140,12 @@ module _ (s : Setting) (r : Running) (k : RunKeeps s r) (n : ℕ) (node : Node) 
     none_free = λ stands. by_case stands;
   }
     where
-      by_case : (AskStands (seen s r) n ⊎ RunnerStands (seen s r) n) → length ((seen s r).holders n) ≡ r.whole.slots
+      by_case : (AskStands (seen s r) n ⊎ RunnerStands (seen s r) n) → length ((seen s r).slot_holders n) ≡ r.whole.slots
       by_case (inl ask) = sound.none_free ask
       by_case (inr run) =
-          let holders : length (holders_in (node_at r.whole n)) ≡ length sched.holders = ap (λ o. length (holders_in o)) at in
+          let slot_holders : length (holders_in (node_at r.whole n)) ≡ length sched.slot_holders = ap (λ o. length (holders_in o)) at in
           let within : length (holders_in (node_at r.whole n)) ≤ r.whole.slots = sound.within in
-          holders ∙ runner_full (omega (arith, holders, within)) run
+          slot_holders ∙ runner_full (omega (arith, slot_holders, within)) run
 
 pub law_of_kept_slots : LawOfKeptSlots
 law_of_kept_slots s slots some slot apart gs right n node at =

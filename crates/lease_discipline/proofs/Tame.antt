@@ -7,7 +7,7 @@ use Rattle.protocol_laws.specs.of_protocol.Commits.{task_objects}
 use Rattle.protocol_laws.specs.of_protocol.Numbered.{item_at, changed_at}
 use Rattle.protocol_laws.specs.of_protocol.Tables.{ByTask, Object, OwnTask, AtRest, AskedAt, RunsOn, WasPut}
 use Rattle.protocol_laws.specs.of_protocol.Tables.{Worker}
-use Rattle.protocol_laws.specs.of_protocol.Tables.{new_task, task_in, task_of, with_task, without_place}
+use Rattle.protocol_laws.specs.of_protocol.Tables.{new_task, task_in, task_of, with_task, without_location}
 use Rattle.protocol_laws.proofs.of_smallest_steps.Known.{new_tasks, same_tasks}
 use Rattle.protocol_laws.proofs.of_protocol_owed.CourseEvents.{append_none}
 use Rattle.protocol_laws.proofs.of_protocol_owed.Nodes.{changed_cases, push_cases, there_more}
@@ -127,20 +127,20 @@ pub item_mapped : {X Y : Type 0} (f : X → Y) (xs : List X) (k : ℕ) (y : Y) �
 item_mapped f xs zero y e = absurd (cc)
 item_mapped f xs (suc i) y e = get_mapped f xs i y e
 
-pub places_tame : (x : Worker) (m : ℕ) → IsTame x (record x { objects = map (without_place m) x.objects })
-places_tame x m = record {
+pub locations_tame : (x : Worker) (m : ℕ) → IsTame x (record x { objects = map (without_location m) x.objects })
+locations_tame x m = record {
   node = refl;
   live = refl;
   run = refl;
   began = refl;
-  runs = λ i task v n e q. by_item i task v n q (item_at (map (without_place m) x.objects) i) refl e;
+  runs = λ i task v n e q. by_item i task v n q (item_at (map (without_location m) x.objects) i) refl e;
 }
   where
-    by_item : (i : ℕ) (task : OwnTask) (v n : ℕ) → task.progress ≡ RunsOn v n → (o : Option Object) → item_at (map (without_place m) x.objects) i ≡ o →
+    by_item : (i : ℕ) (task : OwnTask) (v n : ℕ) → task.progress ≡ RunsOn v n → (o : Option Object) → item_at (map (without_location m) x.objects) i ≡ o →
         task_of o ≡ Some task → RanAlready x i task.number v n
     by_item i task v n q None g e = absurd (cc)
     by_item i task v n q (Some z) g e =
-        let r = item_mapped (without_place m) x.objects i z g in
+        let r = item_mapped (without_location m) x.objects i z g in
         record { task = task; at = ap task_of r.1 ∙ ap (λ (u : Object). task_in u.source) (sym r.2) ∙ e; progress = q; numbered = refl }
 
 -- ---- changes that leave tasks as they are
@@ -171,14 +171,14 @@ put_left x y put = record {
       | inr (last, is) ↦ ap task_of e ∙ ap (λ (u : Object). task_in u.source) (sym is) ∙ ap task_in put ∙ ap task_of (sym f)
     ]
 
-pub places_left : (x : Worker) (m : ℕ) → LeavesTasks x (record x { objects = map (without_place m) x.objects })
-places_left x m = record { tame = places_tame x m; tasks = λ k. by_item k (item_at x.objects k) refl }
+pub locations_left : (x : Worker) (m : ℕ) → LeavesTasks x (record x { objects = map (without_location m) x.objects })
+locations_left x m = record { tame = locations_tame x m; tasks = λ k. by_item k (item_at x.objects k) refl }
   where
-    get_map : (xs : List Object) (i : ℕ) → task_of (slice_get (map (without_place m) xs) i) ≡ task_of (slice_get xs i)
+    get_map : (xs : List Object) (i : ℕ) → task_of (slice_get (map (without_location m) xs) i) ≡ task_of (slice_get xs i)
     get_map [] i = refl
     get_map (y ∷ xs) zero = refl
     get_map (y ∷ xs) (suc i) = get_map xs i
 
-    by_item : (k : ℕ) (o : Option Object) → item_at x.objects k ≡ o → task_of (item_at (map (without_place m) x.objects) k) ≡ task_of (item_at x.objects k)
+    by_item : (k : ℕ) (o : Option Object) → item_at x.objects k ≡ o → task_of (item_at (map (without_location m) x.objects) k) ≡ task_of (item_at x.objects k)
     by_item zero o e = refl
     by_item (suc i) o e = get_map x.objects i

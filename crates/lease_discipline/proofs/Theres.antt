@@ -93,7 +93,7 @@ module _ (jobs : List JobRecord) (ws : List Worker) (net : List Envelope) (n : �
   pub scheduler_goes : (t : NodeContext) (s : Scheduler) → NodeKeeps (look_in t) (sent_in t) n s → Goes t → Goes (with_scheduler t s)
   scheduler_goes t s k g = record { number = g.number; counted = g.counted; workers = g.workers; there = k; alone = g.alone }
 
-  -- a envelope that is true is sent
+  -- an envelope that is true is sent
   sent_workers : (t : NodeContext) (l : Envelope) → IsTrue (look_in t) (sent_in t) l → Goes t → WorkersKeep jobs (look_in t) (with_envelope net t.out.envelopes l)
   sent_workers t l is g = record {
     each = λ w x e. worker_more jobs (sent_in t) (with_envelope net t.out.envelopes l) w x (envelope_more net t.out.envelopes l) (g.workers.each w x e);
@@ -125,7 +125,7 @@ module _ (jobs : List JobRecord) (ws : List Worker) (net : List Envelope) (n : �
     alone = sent_alone t l own g;
   }
 
-  -- a envelope of a worker
+  -- an envelope of a worker
   pub worker_says_goes : (t : NodeContext) (v : ℕ) (to : Endpoint) (m : Message) → IsTrue (look_in t) (sent_in t) (envelope (TheWorker v) to m) → Goes t →
       Goes (posts t (envelope (TheWorker v) to m))
   worker_says_goes t v to m is g =
@@ -134,7 +134,7 @@ module _ (jobs : List JobRecord) (ws : List Worker) (net : List Envelope) (n : �
       no_node : (v k : ℕ) → ◌≡◌ {A = Endpoint} (TheWorker v) (TheNode k) → ⊥
       no_node v k e = cc
 
-  -- a envelope of the node that gives nobody
+  -- an envelope of the node that gives nobody
   node_says_goes : (t : NodeContext) (to : Endpoint) (m : Message) → IsTrue (look_in t) (sent_in t) (envelope (TheNode t.number) to m) → is_give m ≡ false → Goes t →
       Goes (posts t (envelope (TheNode t.number) to m))
   node_says_goes t to m is other g =
@@ -152,18 +152,18 @@ module _ (jobs : List JobRecord) (ws : List Worker) (net : List Envelope) (n : �
   again_goes t k (Leased w) e g =
       let gave : Gave (sent_in t) n k.attempt w = g.there.replied k w e in
       let there : IsOfNode (look_in t) n w = given_there t g k.attempt w gave in
-      posts_goes t (envelope (TheNode t.number) (TheWorker k.attempt.object.owner) (Give k.attempt k.t w))
+      posts_goes t (envelope (TheNode t.number) (TheWorker k.attempt.object.owner) (Give k.attempt k.hops w))
       (record { worker = there.worker; there = there.there; home = there.home ∙ sym g.number })
       (λ m f. let same : t.number ≡ m = cc in sym same ∙ g.number)
       (λ a i v f. same_given a i v (ap (λ (l : Envelope). l.message) f) gave) g
     where
-      same_given : (a : Attempt) (i v : ℕ) → Give a i v ≡ Give k.attempt k.t w → Gave (sent_in t) n k.attempt w → Gave (sent_in t) n a v
+      same_given : (a : Attempt) (i v : ℕ) → Give a i v ≡ Give k.attempt k.hops w → Gave (sent_in t) n k.attempt w → Gave (sent_in t) n a v
       same_given a i v f gave =
           let attempts : a ≡ k.attempt = cc in
           let workers : v ≡ w = cc in
           subst (λ b. Gave (sent_in t) n b v) (sym attempts) (subst (λ u. Gave (sent_in t) n k.attempt u) (sym workers) gave)
-  again_goes t k (SentOn m) e g = node_says_goes t (TheWorker k.attempt.object.owner) (Elsewhere k.attempt k.t m) tt refl g
-  again_goes t k Queued e g = node_says_goes t (TheWorker k.attempt.object.owner) (Wait k.attempt k.t) tt refl g
+  again_goes t k (SentOn m) e g = node_says_goes t (TheWorker k.attempt.object.owner) (Elsewhere k.attempt k.hops m) tt refl g
+  again_goes t k Queued e g = node_says_goes t (TheWorker k.attempt.object.owner) (Wait k.attempt k.hops) tt refl g
 
   -- another answer than a worker
   anew_goes : (t : NodeContext) (k : AskKey) (x : AskReply) → ((w : ℕ) → x ≡ Leased w → ⊥) → is_give (reply_message k x) ≡ false →
@@ -176,7 +176,7 @@ module _ (jobs : List JobRecord) (ws : List Worker) (net : List Envelope) (n : �
 
   pub no_slot_goes : (t : NodeContext) (k : AskKey) → Goes t → Goes (has_no_slot_for t k)
   no_slot_goes t k g =
-      at_test (λ b. Goes (if b then replies_anew t k (SentOn (next_in_circle t.nodes t.number)) else queues t k)) (nat_lt (k.t + 1) t.nodes)
+      at_test (λ b. Goes (if b then replies_anew t k (SentOn (next_in_circle t.nodes t.number)) else queues t k)) (nat_lt (k.hops + 1) t.nodes)
       (λ _. anew_goes t k (SentOn (next_in_circle t.nodes t.number)) (λ w e. absurd (cc)) refl tt g)
       (λ _.
       let s : Scheduler = with_queued t.node.scheduler k in
@@ -189,14 +189,14 @@ module _ (jobs : List JobRecord) (ws : List Worker) (net : List Envelope) (n : �
   pub leases_goes : (t : NodeContext) (k : AskKey) (w : ℕ) (x : Worker) → look_in t w ≡ Some x → x.node ≡ n → is_free x.run ≡ true →
       IsUnwanted (look_in t) (sent_in t) n w → Goes t → Goes (leases_worker t k w)
   leases_goes t k w x at home free unwanted g =
-      let l : Envelope = envelope (TheNode t.number) (TheWorker k.attempt.object.owner) (Give k.attempt k.t w) in
+      let l : Envelope = envelope (TheNode t.number) (TheWorker k.attempt.object.owner) (Give k.attempt k.hops w) in
       record {
         number = g.number;
         counted = g.counted;
         workers = sent_workers t l (record { worker = x; there = at; home = home ∙ sym g.number }) g;
         there = gives_keeps (look_in t) (sent_in t) n (with_envelope net t.out.envelopes l) t.node.scheduler k w x (envelope_more net t.out.envelopes l) (
-          k.t,
-          subst (λ m. Among (envelope (TheNode m) (TheWorker k.attempt.object.owner) (Give k.attempt k.t w))
+          k.hops,
+          subst (λ m. Among (envelope (TheNode m) (TheWorker k.attempt.object.owner) (Give k.attempt k.hops w))
               (with_envelope net t.out.envelopes l)) g.number (envelope_last net t.out.envelopes l),
         )
             (λ a v gave. elim (envelope_cases net t.out.envelopes l _ gave.1) [
@@ -206,7 +206,7 @@ module _ (jobs : List JobRecord) (ws : List Worker) (net : List Envelope) (n : �
         alone = sent_alone t l (λ m f. let same : t.number ≡ m = cc in sym same ∙ g.number) g;
       }
     where
-      same_given : (a : Attempt) (i v : ℕ) → Give a i v ≡ Give k.attempt k.t w → (a ≡ k.attempt) × (v ≡ w)
+      same_given : (a : Attempt) (i v : ℕ) → Give a i v ≡ Give k.attempt k.hops w → (a ≡ k.attempt) × (v ≡ w)
       same_given a i v f = (cc, cc)
 
   -- ---- workers are opened
@@ -263,7 +263,7 @@ module _ (jobs : List JobRecord) (ws : List Worker) (net : List Envelope) (n : �
       by_idle (Some w) e =
           let i = g.there.idle w (least-in t.node.scheduler.idle w e) in
           leases_goes t k w i.worker i.there i.home i.free
-          (λ a wanted. both_ways (has t.node.scheduler.holders w) i.slotless (g.there.promised w wanted.worker a wanted.there wanted.lives wanted.given wanted.unbegun).slot) g
+          (λ a wanted. both_ways (has t.node.scheduler.slot_holders w) i.slotless (g.there.promised w wanted.worker a wanted.there wanted.lives wanted.given wanted.unbegun).slot) g
 
   pub asked_goes : (t : NodeContext) (k : AskKey) → Goes t → Goes (asked_by t k (reply_to t.node.scheduler k))
   asked_goes t k g = by_reply (reply_to t.node.scheduler k) refl
@@ -298,13 +298,13 @@ module _ (jobs : List JobRecord) (ws : List Worker) (net : List Envelope) (n : �
   pub frees_goes : (t : NodeContext) (w : ℕ) → IsUnwanted (look_in t) (sent_in t) n w → Goes t → Goes (frees t w)
   frees_goes t w unwanted g =
       let s : Scheduler = without_slot t.node.scheduler w in
-      at_test (λ b. Goes (if b then grants (with_scheduler t s) else t)) (has t.node.scheduler.holders w)
+      at_test (λ b. Goes (if b then grants (with_scheduler t s) else t)) (has t.node.scheduler.slot_holders w)
       (λ _. grants_goes (with_scheduler t s) (less_goes t s (slot_lessens (look_in t) (sent_in t) n t.node.scheduler w unwanted) g)) (λ _. g)
 
   pub asks_slot_goes : (t : NodeContext) (w : ℕ) → Goes t → Goes (asks_slot t w)
   asks_slot_goes t w g =
       let s : Scheduler = with_answered t.node.scheduler w in
-      at_test (λ b. Goes (if b then t else grants (with_scheduler t s))) (has t.node.scheduler.holders w || has t.node.scheduler.answered w)
+      at_test (λ b. Goes (if b then t else grants (with_scheduler t s))) (has t.node.scheduler.slot_holders w || has t.node.scheduler.answered w)
       (λ _. g) (λ _. grants_goes (with_scheduler t s) (less_goes t s (answered_lessens (look_in t) (sent_in t) n t.node.scheduler w) g))
 
   pub forgets_goes : (t : NodeContext) (w : ℕ) → IsUnwanted (look_in t) (sent_in t) n w → Goes t → Goes (forgets t w)

@@ -226,8 +226,8 @@ dead_nowhere : (w : ℕ) (log : List Entry) → node_of w log ≡ None → is_li
 unfolding is_live
 dead_nowhere w log e = ap (λ o. on_node o false (λ n. not (list_any (kills w n) (accepted_events log)))) e
 
-pub places : (s : Setting) (log : List Entry) (c : ClusterState) → Between s log c → (w : ℕ) (x : Worker) → worker_at c w ≡ Some x → node_of w log ≡ Some x.node
-places s log c b w x at = ap (λ ns. from_one ns w) b.knows.opened ∙ node_at_work c.workers w x at
+pub locations : (s : Setting) (log : List Entry) (c : ClusterState) → Between s log c → (w : ℕ) (x : Worker) → worker_at c w ≡ Some x → node_of w log ≡ Some x.node
+locations s log c b w x at = ap (λ ns. from_one ns w) b.knows.opened ∙ node_at_work c.workers w x at
 
 pub lives_there : (s : Setting) (log : List Entry) (c : ClusterState) → Between s log c → (w : ℕ) → is_live w log ≡ true →
     (x : Worker) × (worker_at c w ≡ Some x) × (x.is_live ≡ true)
@@ -240,7 +240,7 @@ lives_there s log c b w live = by_worker (worker_at c w) refl
 pub log_tells : (s : Setting) (log : List Entry) (c : ClusterState) → IsInStep s log c → C.LogTells s (running c log)
 log_tells s log c step = record {
   there = λ w live. lives_there s log c step.sound.between w live;
-  places = λ w x at. places s log c step.sound.between w x at;
+  locations = λ w x at. locations s log c step.sound.between w x at;
   agrees = λ w x at live. agrees_now s log c step w x at live;
 }
 

@@ -282,7 +282,7 @@ kill_event c w (Some x) at k =
       | inr (_, before) ↦ inl
           (before, tt)
     ])
-    (record { holders = λ v _ i. i; answered = λ v _ i. inr i }) (k n node e))
+    (record { slot_holders = λ v _ i. i; answered = λ v _ i. inr i }) (k n node e))
 
 survivor : (x y : Worker) (b : Bool) → y ≡ (if b then dead x else x) → y.is_live ≡ true → x ≡ y
 survivor x y true e live = absurd (not_dead x y e live)
@@ -298,7 +298,7 @@ kill_node_event c n f same k m node e =
     (λ w y there live.
     let r = item_mapped (dies_with n) c.workers w y there in
     inl (subst (λ z. worker_at c w ≡ Some z) (survivor r.0 y (r.0.node == n) r.2 live) r.1, tt))
-    (record { holders = λ v _ i. i; answered = λ v _ i. inr i }) (k m old at)) in
+    (record { slot_holders = λ v _ i. i; answered = λ v _ i. inr i }) (k m old at)) in
     elim (changed_cases c.nodes n m f node e) [
       | inl (_, old, at, is) ↦ of_node old at (ap (λ (y : Node). y.scheduler) is ∙ same old)
       | inr (_, at) ↦ of_node node at refl

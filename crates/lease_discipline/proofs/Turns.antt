@@ -41,8 +41,8 @@ use Rattle.lease_discipline.proofs.Heres.{at_me, at_other, by_number, look_here,
 
 -- t has a slot for whoever has one in s, and whoever asks for one in s has it or asks for it still; but for the worker w
 pub record NoLossBut (b : ℕ → Type 0) (s t : Scheduler) : Type 0 where
-  pub holders : (w : ℕ) → b w → has s.holders w ≡ true → has t.holders w ≡ true
-  pub answered : (w : ℕ) → b w → has s.answered w ≡ true → (has t.holders w ≡ true) ⊎ (has t.answered w ≡ true)
+  pub slot_holders : (w : ℕ) → b w → has s.slot_holders w ≡ true → has t.slot_holders w ≡ true
+  pub answered : (w : ℕ) → b w → has s.answered w ≡ true → (has t.slot_holders w ≡ true) ⊎ (has t.answered w ≡ true)
 
 abbrev pub Anyone : ℕ → Type 0
 Anyone w = Unit {0}
@@ -51,30 +51,30 @@ abbrev pub NoLoss : Scheduler → Scheduler → Type 0
 NoLoss s t = NoLossBut Anyone s t
 
 none_lost : (s : Scheduler) → NoLoss s s
-none_lost s = record { holders = λ w _ e. e; answered = λ w _ e. inr e }
+none_lost s = record { slot_holders = λ w _ e. e; answered = λ w _ e. inr e }
 
 then_lost : (b : ℕ → Type 0) (s t u : Scheduler) → NoLossBut b s t → NoLossBut b t u → NoLossBut b s u
 then_lost b s t u p q = record {
-  holders = λ w i e. q.holders w i (p.holders w i e);
-  answered = λ w i e. elim (p.answered w i e) [ inl f ↦ inl (q.holders w i f) | inr f ↦ q.answered w i f ];
+  slot_holders = λ w i e. q.slot_holders w i (p.slot_holders w i e);
+  answered = λ w i e. elim (p.answered w i e) [ inl f ↦ inl (q.slot_holders w i f) | inr f ↦ q.answered w i f ];
 }
 
 but : (b : ℕ → Type 0) (s t : Scheduler) → NoLoss s t → NoLossBut b s t
-but b s t p = record { holders = λ w _ e. p.holders w tt e; answered = λ w _ e. p.answered w tt e }
+but b s t p = record { slot_holders = λ w _ e. p.slot_holders w tt e; answered = λ w _ e. p.answered w tt e }
 
 abbrev pub sch : NodeContext → Scheduler
 sch t = t.node.scheduler
 
 leases_lose : (t : NodeContext) (k : AskKey) (o : Option ℕ) → NoLoss (sch t) (sch (leases_idle t k o))
-leases_lose t k None = record { holders = λ w _ e. list_any-push_left (λ y. y == w) (sch t).holders _ e; answered = λ w _ e. inr e }
-leases_lose t k (Some v) = record { holders = λ w _ e. list_any-push_left (λ y. y == w) (sch t).holders v e; answered = λ w _ e. inr e }
+leases_lose t k None = record { slot_holders = λ w _ e. list_any-push_left (λ y. y == w) (sch t).slot_holders _ e; answered = λ w _ e. inr e }
+leases_lose t k (Some v) = record { slot_holders = λ w _ e. list_any-push_left (λ y. y == w) (sch t).slot_holders v e; answered = λ w _ e. inr e }
 
 asked_lose : (t : NodeContext) (k : AskKey) (x : Option AskReply) → NoLoss (sch t) (sch (asked_by t k x))
 asked_lose t k None =
     at_test (λ b. NoLoss (sch t) (sch (if b then gives_worker t k else has_no_slot_for t k))) (has_free_slot (sch t))
     (λ _. leases_lose t k (least (sch t).idle))
-    (λ _. at_test (λ b. NoLoss (sch t) (sch (if b then replies_anew t k (SentOn (next_in_circle t.nodes t.number)) else queues t k))) (nat_lt (k.t + 1) t.nodes)
-    (λ _. record { holders = λ w _ e. e; answered = λ w _ e. inr e }) (λ _. record { holders = λ w _ e. e; answered = λ w _ e. inr e }))
+    (λ _. at_test (λ b. NoLoss (sch t) (sch (if b then replies_anew t k (SentOn (next_in_circle t.nodes t.number)) else queues t k))) (nat_lt (k.hops + 1) t.nodes)
+    (λ _. record { slot_holders = λ w _ e. e; answered = λ w _ e. inr e }) (λ _. record { slot_holders = λ w _ e. e; answered = λ w _ e. inr e }))
 asked_lose t k (Some x) = none_lost (sch t)
 
 grants_queued_lose : (t : NodeContext) (k : Option AskKey) → NoLoss (sch t) (sch (grants_queued t k))
@@ -82,7 +82,7 @@ grants_queued_lose t None = none_lost (sch t)
 grants_queued_lose t (Some k) =
     let q : Scheduler = record (sch t) { queue = rest_of (sch t).queue } in
     let r : NoLoss q (sch (leases_idle (with_scheduler t q) k (least q.idle))) = leases_lose (with_scheduler t q) k (least q.idle) in
-    record { holders = r.holders; answered = r.answered }
+    record { slot_holders = r.slot_holders; answered = r.answered }
 
 first_or_rest : (xs : List ℕ) (w v : ℕ) → first_item xs ≡ Some w → has xs v ≡ true → (w ≡ v) ⊎ (has (rest_of xs) v ≡ true)
 first_or_rest [] w v e f = absurd (cc)
@@ -93,9 +93,9 @@ first_or_rest (x ∷ xs) w v e f =
 grants_next_lose : (t : NodeContext) (o : Option ℕ) → first_item (sch t).answered ≡ o → NoLoss (sch t) (sch (grants_next t o))
 grants_next_lose t None e = grants_queued_lose t (first_item (sch t).queue)
 grants_next_lose t (Some w) e = record {
-  holders = λ v _ f. list_any-push_left (λ y. y == v) (sch t).holders w f;
+  slot_holders = λ v _ f. list_any-push_left (λ y. y == v) (sch t).slot_holders w f;
   answered = λ v _ f. elim (first_or_rest (sch t).answered w v e f) [
-    | inl same ↦ inl (subst (λ u. has ((sch t).holders ++ w ∷ []) u ≡ true) same (has-last (sch t).holders w))
+    | inl same ↦ inl (subst (λ u. has ((sch t).slot_holders ++ w ∷ []) u ≡ true) same (has-last (sch t).slot_holders w))
     | inr g ↦ inr g
   ];
 }
@@ -111,48 +111,48 @@ Others w v = w ≢ v
 pub frees_lose : (t : NodeContext) (w : ℕ) → NoLossBut (Others w) (sch t) (sch (frees t w))
 frees_lose t w =
     let s : Scheduler = without_slot (sch t) w in
-    at_test (λ b. NoLossBut (Others w) (sch t) (sch (if b then grants (with_scheduler t s) else t))) (has (sch t).holders w)
+    at_test (λ b. NoLossBut (Others w) (sch t) (sch (if b then grants (with_scheduler t s) else t))) (has (sch t).slot_holders w)
     (λ _. then_lost (Others w) (sch t) s (sch (grants (with_scheduler t s)))
-    (record { holders = λ v apart e. has-stays (sch t).holders w v apart e; answered = λ v _ e. inr e })
+    (record { slot_holders = λ v apart e. has-stays (sch t).slot_holders w v apart e; answered = λ v _ e. inr e })
     (but (Others w) s (sch (grants (with_scheduler t s))) (grants_lose (with_scheduler t s))))
     (λ _. but (Others w) (sch t) (sch t) (none_lost (sch t)))
 
 pub asks_lose : (t : NodeContext) (w : ℕ) → NoLoss (sch t) (sch (asks_slot t w))
 asks_lose t w =
     let s : Scheduler = with_answered (sch t) w in
-    at_test (λ b. NoLoss (sch t) (sch (if b then t else grants (with_scheduler t s)))) (has (sch t).holders w || has (sch t).answered w)
+    at_test (λ b. NoLoss (sch t) (sch (if b then t else grants (with_scheduler t s)))) (has (sch t).slot_holders w || has (sch t).answered w)
     (λ _. none_lost (sch t))
     (λ _. then_lost Anyone (sch t) s (sch (grants (with_scheduler t s)))
-    (record { holders = λ v _ e. e; answered = λ v _ e. inr (list_any-push_left (λ y. y == v) (sch t).answered w e) }) (grants_lose (with_scheduler t s)))
+    (record { slot_holders = λ v _ e. e; answered = λ v _ e. inr (list_any-push_left (λ y. y == v) (sch t).answered w e) }) (grants_lose (with_scheduler t s)))
 
 -- whoever asks for a slot has it, or asks for it
-pub asks_gains : (t : NodeContext) (w : ℕ) → (has (sch (asks_slot t w)).holders w ≡ true) ⊎ (has (sch (asks_slot t w)).answered w ≡ true)
+pub asks_gains : (t : NodeContext) (w : ℕ) → (has (sch (asks_slot t w)).slot_holders w ≡ true) ⊎ (has (sch (asks_slot t w)).answered w ≡ true)
 asks_gains t w =
     let s : Scheduler = with_answered (sch t) w in
-    at_test (λ b. (has (sch t).holders w || has (sch t).answered w) ≡ b →
-    (has (sch (if b then t else grants (with_scheduler t s))).holders w ≡ true) ⊎
+    at_test (λ b. (has (sch t).slot_holders w || has (sch t).answered w) ≡ b →
+    (has (sch (if b then t else grants (with_scheduler t s))).slot_holders w ≡ true) ⊎
     (has (sch (if b then t else grants (with_scheduler t s))).answered w ≡ true))
-    (has (sch t).holders w || has (sch t).answered w)
-    (λ _ e. elim (or_cases (has (sch t).holders w) (has (sch t).answered w) e) [ inl f ↦ inl f | inr f ↦ inr f ])
+    (has (sch t).slot_holders w || has (sch t).answered w)
+    (λ _ e. elim (or_cases (has (sch t).slot_holders w) (has (sch t).answered w) e) [ inl f ↦ inl f | inr f ↦ inr f ])
     (λ _ _. (grants_lose (with_scheduler t s)).answered w tt (has-last (sch t).answered w)) refl
 
 pub forgets_lose : (t : NodeContext) (w : ℕ) → NoLossBut (Others w) (sch t) (sch (forgets t w))
 forgets_lose t w =
     let s : Scheduler = without_worker (sch t) w in
     then_lost (Others w) (sch t) s (sch (frees (with_scheduler t s) w))
-    (record { holders = λ v _ e. e; answered = λ v apart e. inr (has-stays (sch t).answered w v apart e) }) (frees_lose (with_scheduler t s) w)
+    (record { slot_holders = λ v _ e. e; answered = λ v apart e. inr (has-stays (sch t).answered w v apart e) }) (frees_lose (with_scheduler t s) w)
 
 fetched_lose : (t : NodeContext) (o : Id) (number w : ℕ) (c : Option Outcome) → NoLoss (sch t) (sch (fetched t o number w c))
 fetched_lose t o number w None = none_lost (sch t)
-fetched_lose t o number w (Some c) = record { holders = λ v _ e. e; answered = λ v _ e. inr e }
+fetched_lose t o number w (Some c) = record { slot_holders = λ v _ e. e; answered = λ v _ e. inr e }
 
 reached_from_lose : (t : NodeContext) (w : ℕ) (m : Message) → NoLoss (sch t) (sch (node_reached_from t w m))
 reached_from_lose t w (Ask a i) = asked_lose t (ask_key a i) (reply_to (sch t) (ask_key a i))
 reached_from_lose t w (Back a) =
     at_test (λ b. NoLoss (sch t) (sch (if b then with_scheduler t (with_idle (sch t) w) else t))) (may_be_idle (sch t) w a)
-    (λ _. record { holders = λ v _ e. e; answered = λ v _ e. inr e }) (λ _. none_lost (sch t))
+    (λ _. record { slot_holders = λ v _ e. e; answered = λ v _ e. inr e }) (λ _. none_lost (sch t))
 reached_from_lose t w (Fetch o number) = fetched_lose t o number w (copy_in t.node.store o number)
-reached_from_lose t w (Unhold e o why) = record { holders = λ v _ i. i; answered = λ v _ i. inr i }
+reached_from_lose t w (Unhold e o why) = record { slot_holders = λ v _ i. i; answered = λ v _ i. inr i }
 reached_from_lose t w (Give a i v) = none_lost (sch t)
 reached_from_lose t w (Elsewhere a i m) = none_lost (sch t)
 reached_from_lose t w (Wait a i) = none_lost (sch t)
@@ -200,12 +200,12 @@ pub turns_after : (b : ℕ → Type 0) (look next : Look) (n : ℕ) (s t : Sched
     NoLossBut b s t → HasTurn look n s → HasTurn next n t
 turns_after b look next n s t back less turns = record {
   out = λ w y j at home live out. elim (back w y at live) [
-    | inl (f, is) ↦ less.holders w is (turns.out w y j f home live out)
+    | inl (f, is) ↦ less.slot_holders w is (turns.out w y j f home live out)
     | inr none ↦ absurd
         (none.out j out)
   ];
   ready = λ w y at home live ready. elim (back w y at live) [
-    | inl (f, is) ↦ elim (turns.ready w y f home live ready) [ inl g ↦ inl (less.holders w is g) | inr g ↦ less.answered w is g ]
+    | inl (f, is) ↦ elim (turns.ready w y f home live ready) [ inl g ↦ inl (less.slot_holders w is g) | inr g ↦ less.answered w is g ]
     | inr none ↦ absurd (none.goes ready)
   ];
 }
@@ -232,7 +232,7 @@ module _ (c : ClusterState) (me n : ℕ) (old : Worker) (there : item_at c.worke
 
   -- the worker has become y; its turn is what it was, or it has a slot, or it has no turn
   worker_turns : (h : WorkerContext) (y : Worker) → y.node ≡ h.worker.node → (y.is_live ≡ true → h.worker.is_live ≡ true) →
-      (pace_by y.run ≡ pace_by h.worker.run) ⊎ (has h.there.node.scheduler.holders me ≡ true) ⊎ NoTurn y → Turns h → Turns (with_worker h y)
+      (pace_by y.run ≡ pace_by h.worker.run) ⊎ (has h.there.node.scheduler.slot_holders me ≡ true) ⊎ NoTurn y → Turns h → Turns (with_worker h y)
   worker_turns h y node live now t = record {
     who = t.who;
     home = node ∙ t.home;
@@ -252,24 +252,24 @@ module _ (c : ClusterState) (me n : ℕ) (old : Worker) (there : item_at c.worke
       was = at_me c me n old there h.worker h.there.opened
 
       mine_out : (w : ℕ) (z : Worker) (j : ℕ) → w ≡ me → look y h.there.opened w ≡ Some z → z.is_live ≡ true → pace_by z.run ≡ IsOut j →
-          (pace_by y.run ≡ pace_by h.worker.run) ⊎ (has h.there.node.scheduler.holders me ≡ true) ⊎ NoTurn y → has h.there.node.scheduler.holders w ≡ true
+          (pace_by y.run ≡ pace_by h.worker.run) ⊎ (has h.there.node.scheduler.slot_holders me ≡ true) ⊎ NoTurn y → has h.there.node.scheduler.slot_holders w ≡ true
       mine_out w z j same at lives out (inl alike) =
           let is : y ≡ z = is_me y z h.there.opened w same at in
           let pace : pace_by h.worker.run ≡ IsOut j = sym alike ∙ ap (λ (u : Worker). pace_by u.run) is ∙ out in
-          subst (λ v. has h.there.node.scheduler.holders v ≡ true) (sym same)
+          subst (λ v. has h.there.node.scheduler.slot_holders v ≡ true) (sym same)
           (t.turns.out me h.worker j was t.home (live (ap (λ (u : Worker). u.is_live) is ∙ lives)) pace)
-      mine_out w z j same at lives out (inr (inl slot)) = subst (λ v. has h.there.node.scheduler.holders v ≡ true) (sym same) slot
+      mine_out w z j same at lives out (inr (inl slot)) = subst (λ v. has h.there.node.scheduler.slot_holders v ≡ true) (sym same) slot
       mine_out w z j same at lives out (inr (inr none)) = absurd (none.out j (ap (λ (u : Worker). pace_by u.run) (is_me y z h.there.opened w same at) ∙ out))
 
       mine_ready : (w : ℕ) (z : Worker) → w ≡ me → look y h.there.opened w ≡ Some z → z.is_live ≡ true → pace_by z.run ≡ GoesOn →
-          (pace_by y.run ≡ pace_by h.worker.run) ⊎ (has h.there.node.scheduler.holders me ≡ true) ⊎ NoTurn y →
-          (has h.there.node.scheduler.holders w ≡ true) ⊎ (has h.there.node.scheduler.answered w ≡ true)
+          (pace_by y.run ≡ pace_by h.worker.run) ⊎ (has h.there.node.scheduler.slot_holders me ≡ true) ⊎ NoTurn y →
+          (has h.there.node.scheduler.slot_holders w ≡ true) ⊎ (has h.there.node.scheduler.answered w ≡ true)
       mine_ready w z same at lives ready (inl alike) =
           let is : y ≡ z = is_me y z h.there.opened w same at in
           let pace : pace_by h.worker.run ≡ GoesOn = sym alike ∙ ap (λ (u : Worker). pace_by u.run) is ∙ ready in
-          subst (λ v. (has h.there.node.scheduler.holders v ≡ true) ⊎ (has h.there.node.scheduler.answered v ≡ true)) (sym same)
+          subst (λ v. (has h.there.node.scheduler.slot_holders v ≡ true) ⊎ (has h.there.node.scheduler.answered v ≡ true)) (sym same)
           (t.turns.ready me h.worker was t.home (live (ap (λ (u : Worker). u.is_live) is ∙ lives)) pace)
-      mine_ready w z same at lives ready (inr (inl slot)) = inl (subst (λ v. has h.there.node.scheduler.holders v ≡ true) (sym same) slot)
+      mine_ready w z same at lives ready (inr (inl slot)) = inl (subst (λ v. has h.there.node.scheduler.slot_holders v ≡ true) (sym same) slot)
       mine_ready w z same at lives ready (inr (inr none)) = absurd (none.goes (ap (λ (u : Worker). pace_by u.run) (is_me y z h.there.opened w same at) ∙ ready))
 
   -- whose turn it isn't gives its slot back
@@ -297,15 +297,15 @@ module _ (c : ClusterState) (me n : ℕ) (old : Worker) (there : item_at c.worke
       out = λ w y j at home lives out. elim (by_number w me) [
         | inl same ↦ absurd (goes_out j (sym goes ∙ ap (λ (x : Worker). pace_by x.run) (is_me h.worker y k w same at) ∙ out))
         | inr apart ↦ elim (grows h.worker h.there.opened k w y at) [
-          | inl f ↦ less.holders w tt (t.out w y j (sym (at_other c me n old there before h.worker h.there.opened w apart) ∙ f) home lives out)
+          | inl f ↦ less.slot_holders w tt (t.out w y j (sym (at_other c me n old there before h.worker h.there.opened w apart) ∙ f) home lives out)
           | inr none ↦ absurd (none.out j out)
         ]
       ];
       ready = λ w y at home lives ready. elim (by_number w me) [
-        | inl same ↦ subst (λ v. (has now.holders v ≡ true) ⊎ (has now.answered v ≡ true)) (who ∙ sym same) (asks_gains h.there h.me)
+        | inl same ↦ subst (λ v. (has now.slot_holders v ≡ true) ⊎ (has now.answered v ≡ true)) (who ∙ sym same) (asks_gains h.there h.me)
         | inr apart ↦ elim (grows h.worker h.there.opened k w y at) [
           | inl f ↦ elim (t.ready w y (sym (at_other c me n old there before h.worker h.there.opened w apart) ∙ f) home lives ready) [
-            | inl g ↦ inl (less.holders w tt g)
+            | inl g ↦ inl (less.slot_holders w tt g)
             | inr g ↦ less.answered w tt g
           ]
           | inr none ↦ absurd (none.goes ready)
@@ -387,11 +387,11 @@ module _ (c : ClusterState) (me n : ℕ) (old : Worker) (there : item_at c.worke
   kept = turns_kept T O V
 
   -- an attempt that begins has the slot with which its worker was leased
-  pub push_turns : (h : WorkerContext) (a : Attempt) (spec : Birth) → has h.there.node.scheduler.holders me ≡ true → Turns h → Turns (begins_run h a spec)
+  pub push_turns : (h : WorkerContext) (a : Attempt) (spec : Birth) → has h.there.node.scheduler.slot_holders me ≡ true → Turns h → Turns (begins_run h a spec)
   push_turns h a spec slot t = worker_turns h (begins_run h a spec).worker refl (λ i. i) (inr (inl slot)) t
 
   -- so an attempt that is given out
-  pub claim_turns : (h : WorkerContext) (j : ℕ) → has h.there.node.scheduler.holders me ≡ true → Turns h → Turns (claim_step h j)
+  pub claim_turns : (h : WorkerContext) (j : ℕ) → has h.there.node.scheduler.slot_holders me ≡ true → Turns h → Turns (claim_step h j)
   claim_turns h j slot t = by_run h.worker.run
     where
       by_run : (r : Option Execution) → Turns (claim_by h j r)
@@ -458,7 +458,7 @@ module _ (c : ClusterState) (me n : ℕ) (old : Worker) (there : item_at c.worke
       Turns (commit_step h o)
   commit_turns h o run j e out live t = subst (λ r. Turns (commit_by h o r)) (sym e) by_run
     where
-      slot : has h.there.node.scheduler.holders me ≡ true
+      slot : has h.there.node.scheduler.slot_holders me ≡ true
       slot = t.turns.out me h.worker j (at_me c me n old there h.worker h.there.opened) t.home live (ap pace_by e ∙ ap pace_in out)
 
       by_run : Turns (commit_by h o (Some run))

@@ -41,7 +41,7 @@ IsLast dead sent a t n = (i m : ℕ) → Asked sent a i m → ((i ≡ t) × (m �
 
 -- the worker was given for the last ask of the attempt
 pub record IsClosed (dead : ℕ → Type 0) (sent : List Envelope) (a : Attempt) (w : ℕ) : Type 0 where
-  pub t : ℕ
+  pub hops : ℕ
   pub node : ℕ
   pub given : Sends sent (TheNode node) (TheWorker a.object.owner) (Give a t w)
   pub last : IsLast dead sent a t node
@@ -67,7 +67,8 @@ pub record OwnsAsks (dead : ℕ → Type 0) (sent : List Envelope) (v : ℕ) (x 
 
 pub record KeepsAsks (c : ClusterState) : Type 0 where
   -- a node answers what it was asked
-  pub nodes : (n : ℕ) (node : Node) (k : AskKey) (x : AskReply) → node_at c n ≡ Some node → reply_to node.scheduler k ≡ Some x → Asked c.network k.attempt k.t n
+  pub nodes : (n : ℕ) (node : Node) (k : AskKey) (x : AskReply) → node_at c n ≡ Some node → reply_to node.scheduler k ≡ Some x →
+      Asked c.network k.attempt k.hops n
   pub owners : (v : ℕ) (x : Worker) → worker_at c v ≡ Some x → OwnsAsks (IsDeadNode c) c.network v x
   pub closed : (a : Attempt) (w : ℕ) → Pushed c.network a w → IsClosed (IsDeadNode c) c.network a w
   -- only the attempts of workers that are there were asked for or pushed

@@ -55,7 +55,7 @@ pub record IsIdle (look : Look) (n : ℕ) (s : Scheduler) (w : ℕ) : Type 0 whe
   pub there : look w ≡ Some worker
   pub home : worker.node ≡ n
   pub free : is_free worker.run ≡ true
-  pub slotless : has s.holders w ≡ false
+  pub slotless : has s.slot_holders w ≡ false
   pub unanswered : has s.answered w ≡ false
 
 -- a worker that was given for an attempt which it never began is free, and has its lease and a slot for it
@@ -63,7 +63,7 @@ pub record IsPromised (s : Scheduler) (w : ℕ) (x : Worker) (a : Attempt) : Typ
   pub free : is_free x.run ≡ true
   pub leased : is_latest_lease s w a ≡ true
   pub sole : IsLeasedFor s w a
-  pub slot : has s.holders w ≡ true
+  pub slot : has s.slot_holders w ≡ true
 
 pub record NodeKeeps (look : Look) (sent : List Envelope) (n : ℕ) (s : Scheduler) : Type 0 where
   pub idle : (w : ℕ) → has s.idle w ≡ true → IsIdle look n s w

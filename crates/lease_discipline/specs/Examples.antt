@@ -23,13 +23,13 @@ first_one = attempt (object_id 1 1) 0
 
 -- on one node of one slot, where these have a slot
 abbrev pub scene : Setting → List Entry → List Envelope → List ℕ → Scene
-scene s log network holders =
+scene s log network slot_holders =
     record {
       setting = s;
       slots = 1;
       log = log;
       network = network;
-      holders = λ n. if n == 1 then holders else [];
+      slot_holders = λ n. if n == 1 then slot_holders else [];
       keeps = λ n o number. false;
     }
 

@@ -18,9 +18,9 @@ use Rattle.lease_discipline.specs.Discipline.{Look}
 
 -- of the node's live workers each whose job is out has a slot, and each whose attempt may go on has one or asks for it
 pub record HasTurn (look : Look) (n : ℕ) (s : Scheduler) : Type 0 where
-  pub out : (w : ℕ) (x : Worker) (j : ℕ) → look w ≡ Some x → x.node ≡ n → x.is_live ≡ true → pace_by x.run ≡ IsOut j → has s.holders w ≡ true
+  pub out : (w : ℕ) (x : Worker) (j : ℕ) → look w ≡ Some x → x.node ≡ n → x.is_live ≡ true → pace_by x.run ≡ IsOut j → has s.slot_holders w ≡ true
   pub ready : (w : ℕ) (x : Worker) → look w ≡ Some x → x.node ≡ n → x.is_live ≡ true → pace_by x.run ≡ GoesOn →
-      (has s.holders w ≡ true) ⊎ (has s.answered w ≡ true)
+      (has s.slot_holders w ≡ true) ⊎ (has s.answered w ≡ true)
 
 abbrev pub KeepsSlots : ClusterState → Type 0
 KeepsSlots c = (n : ℕ) (node : Node) → node_at c n ≡ Some node → HasTurn (worker_at c) n node.scheduler
@@ -30,12 +30,12 @@ KeepsSlots c = (n : ℕ) (node : Node) → node_at c n ≡ Some node → HasTurn
 -- what is owed of slots, but for one clause: that a worker with a slot was given, is busy or may go on
 pub record SlotsAreKept (s : Scene) (n : ℕ) : Type 0 where
   -- the slots in use are never more than there are
-  pub distinct : AreDistinct (s.holders n)
-  pub within : length (s.holders n) ≤ s.slots
+  pub distinct : AreDistinct (s.slot_holders n)
+  pub within : length (s.slot_holders n) ≤ s.slots
   -- whoever was given or is busy keeps the slot
-  pub kept : (w : ℕ) → LivesOn s w n → (IsLeased s w ⊎ IsBusy s w) → has (s.holders n) w ≡ true
+  pub kept : (w : ℕ) → LivesOn s w n → (IsLeased s w ⊎ IsBusy s w) → has (s.slot_holders n) w ≡ true
   -- no slot is free while an ask or an answered attempt stands in the queue
-  pub none_free : (AskStands s n ⊎ RunnerStands s n) → length (s.holders n) ≡ s.slots
+  pub none_free : (AskStands s n ⊎ RunnerStands s n) → length (s.slot_holders n) ≡ s.slots
 
 -- what is handed in with each commit of these is what its attempt's replay does
 abbrev pub AreRight : Setting → Running → List Handing → Type 0

@@ -20,11 +20,11 @@ fn is_whole(object: &Object) -> bool
     object.settled.is_some() && object.fault.is_none() && !object.is_released
 }
 
-/// Whether no place of a copy of its content is known, and the owner doesn't keep it.
+/// Whether no location of a copy of its content is known, and the owner doesn't keep it.
 fn is_nowhere(object: &Object) -> bool
     ensures { result ≡ is_nowhere object.now }
 {
-    object.places.items.is_empty() && object.kept.is_none()
+    object.locations.items.is_empty() && object.kept.is_none()
 }
 
 /// Whether its content can't be had, and none is coming: it is one of these objects, of which another may have its task.

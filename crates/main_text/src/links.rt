@@ -89,8 +89,8 @@ fn write_job(
 fn write_holders(text: &mut String, whole: &ClusterState, node: NodeId) -> Result<(), AllocError>
     ensures { OnOk result (string_bytes text.new ≡ string_bytes text.old ++ workers_text (holders_at whole.now node)) }
 {
-    let holders = holders_at(whole, node);
-    write_workers(text, holders)
+    let slot_holders = holders_at(whole, node);
+    write_workers(text, slot_holders)
 }
 
 fn write_slot(

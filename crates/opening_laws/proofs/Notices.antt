@@ -8,13 +8,13 @@ use Rattle.limit_laws.specs.of_protocol.Asking.{asks_next, begins, elsewhere_by,
 use Rattle.limit_laws.specs.of_protocol.Holders.{collects, drops_dead, drops_dead_by, drops_holders, first_born_first, lets_go_of_dead}
 use Rattle.limit_laws.specs.of_protocol.Messages.{Hold, OwnerIsDead, TheNode, Unhold, Where}
 use Rattle.limit_laws.specs.of_protocol.Notices.{breaks_if, breaks_where, drops_holds, drops_holds_by, drops_stop, drops_stop_by, is_unheard, loses_fetch_at, loses_fetch_by}
-use Rattle.limit_laws.specs.of_protocol.Notices.{loses_fetch_of, loses_owner, loses_owner_of, loses_places, moves_ask, moves_ask_at, moves_asks, notice_node_step}
+use Rattle.limit_laws.specs.of_protocol.Notices.{loses_fetch_of, loses_owner, loses_owner_of, loses_locations, moves_ask, moves_ask_at, moves_asks, notice_node_step}
 use Rattle.limit_laws.specs.of_protocol.Notices.{notice_step, runs_on_node, runs_on_worker, with_dead_node, with_dead_worker}
 use Rattle.limit_laws.specs.of_protocol.Sets.{fault, has}
 use Rattle.limit_laws.specs.of_protocol.Steps.{WorkerContext, changes, is_own, object_at, own_id, own_object, says, with_run}
 use Rattle.limit_laws.specs.of_protocol.Tables.{AskedAt, AtRest, Fetching, HasEnded, HasFaulted, holders_of, Holding, knows_dead, needed_by, Object, Out, owner_of, OwnTask}
 use Rattle.limit_laws.specs.of_protocol.Tables.{Phase, Progress, Ready, Execution, RunsOn, task_of, Waits, with_dead_holder}
-use Rattle.limit_laws.specs.of_protocol.Ticks.{asks_again, asks_place_again, sends_holds, sends_run, sends_stop, sends_task, sends_task_at, sends_tasks, tick_step}
+use Rattle.limit_laws.specs.of_protocol.Ticks.{asks_again, asks_location_again, sends_holds, sends_run, sends_stop, sends_task, sends_task_at, sends_tasks, tick_step}
 use Rattle.opening_laws.specs.Spending.{Spends, waits_of}
 use Rattle.opening_laws.proofs.Spends.{each_spends, faults_spends, is_heard_spends, leaves_if_free_spends, spends_if, spends_none, spends_same, spends_then}
 use Rattle.opening_laws.proofs.Spends.{tells_stop_spends}
@@ -139,7 +139,7 @@ pub notice_node_spends : (h : WorkerContext) (m : ℕ) → Spends h (notice_node
 notice_node_spends h m =
     let a : WorkerContext = with_dead_node h m in
     let b : WorkerContext = breaks_where (runs_on_node m) a in
-    let c : WorkerContext = loses_places b m in
+    let c : WorkerContext = loses_locations b m in
     let e : WorkerContext = moves_asks c m in
     spends_if (has h.worker.dead_nodes m) spends_none
     (spends_then {g = a} (spends_same refl refl)
@@ -161,12 +161,12 @@ sends_tasks_spends : (h : WorkerContext) → Spends h (sends_tasks h)
 sends_tasks_spends h =
     each_spends (λ g k. sends_task g k (task_of (own_object g k))) (λ g k. sends_task_spends g k (task_of (own_object g k))) (length h.worker.objects) h 1
 
-asks_place_spends : (h : WorkerContext) (y : Id) (f : Option Fetching) → Spends h (asks_place_again h y f)
-asks_place_spends h y None = spends_if (is_own h y) spends_none (spends_same {g = says h y.owner (Where y)} refl refl)
-asks_place_spends h y (Some f) = spends_same refl refl
+asks_location_spends : (h : WorkerContext) (y : Id) (f : Option Fetching) → Spends h (asks_location_again h y f)
+asks_location_spends h y None = spends_if (is_own h y) spends_none (spends_same {g = says h y.owner (Where y)} refl refl)
+asks_location_spends h y (Some f) = spends_same refl refl
 
 asks_again_spends : (h : WorkerContext) (p : Phase) → Spends h (asks_again h p)
-asks_again_spends h (Waits y f) = asks_place_spends h y f
+asks_again_spends h (Waits y f) = asks_location_spends h y f
 asks_again_spends h Ready = spends_none
 asks_again_spends h (Out j) = spends_none
 asks_again_spends h (HasEnded c) = spends_none

@@ -8,16 +8,16 @@ use Rattle.meaning.specs.Runs.{next_id}
 use Rattle.limit_laws.specs.of_protocol.Sets.{fault, has, rest_of}
 use Rattle.limit_laws.specs.of_protocol.Ends.{accepts, failed_by, failed_reached, fails, first_result, resolves_open, resolves_open_by, settles, finished_by, finished_reached, hears_of_end, if_present}
 use Rattle.limit_laws.specs.of_protocol.Messages.{At, EndedResult, Gone, Endpoint, TheNode, TheWorker}
-use Rattle.limit_laws.specs.of_protocol.Places.{adds_place, adds_place_by, adds_places, answered_here, answers_asker, answers_settled, answers_settled_by, asker_by}
-use Rattle.limit_laws.specs.of_protocol.Places.{at_answers, at_reached, copy_reached, finds_none, goes_to, gone_reached, is_present, looks_at_places, looks_elsewhere_by}
-use Rattle.limit_laws.specs.of_protocol.Places.{looks_for, looks_for_by, looks_here_by, makes_copy_known, may_gain_place, missing_from, missing_reached, needs_at, needs_by}
-use Rattle.limit_laws.specs.of_protocol.Places.{needs_own, needs_own_if_waiting, needs_released, reports_missing, takes_place, takes_place_by, tells_places, tells_released}
-use Rattle.limit_laws.specs.of_protocol.Places.{where_reached}
+use Rattle.limit_laws.specs.of_protocol.Locations.{adds_location, adds_location_by, adds_locations, answered_here, answers_asker, answers_settled, answers_settled_by, asker_by}
+use Rattle.limit_laws.specs.of_protocol.Locations.{at_answers, at_reached, copy_reached, finds_none, goes_to, gone_reached, is_present, looks_at_locations, looks_elsewhere_by}
+use Rattle.limit_laws.specs.of_protocol.Locations.{looks_for, looks_for_by, looks_here_by, makes_copy_known, may_gain_location, missing_from, missing_reached, needs_at, needs_by}
+use Rattle.limit_laws.specs.of_protocol.Locations.{needs_own, needs_own_if_waiting, needs_released, reports_missing, takes_location, takes_location_by, tells_locations, tells_released}
+use Rattle.limit_laws.specs.of_protocol.Locations.{where_reached}
 use Rattle.limit_laws.specs.of_protocol.Runs.{fetches, with_fetching}
 use Rattle.limit_laws.specs.of_protocol.Steps.{WorkerContext, changes, is_own, object_at, says, store_here, with_store, with_task_of}
 use Rattle.limit_laws.specs.of_protocol.Stores.{copy_in, looked_up, with_secondary}
-use Rattle.limit_laws.specs.of_protocol.Tables.{chosen_place, has_content, is_lost, is_waiting_for, live_place, Object, OwnTask, settled_number, task_of, with_asker}
-use Rattle.limit_laws.specs.of_protocol.Tables.{with_content, with_place, without_askers, without_place, without_places}
+use Rattle.limit_laws.specs.of_protocol.Tables.{chosen_location, has_content, is_lost, is_waiting_for, live_location, Object, OwnTask, settled_number, task_of, with_asker}
+use Rattle.limit_laws.specs.of_protocol.Tables.{with_content, with_location, without_askers, without_location, without_locations}
 use Rattle.opening_laws.specs.Spending.{Spends}
 use Rattle.opening_laws.proofs.Spends.{faults_spends, fetching_spends, gets_spends, spends_if, spends_none, spends_same, spends_then}
 use Rattle.opening_laws.proofs.Asks.{answers_faulted_spends, each_result_spends, faults_if_waiting_spends, recovers_if_lost_spends, recovers_spends, resolves_spends}
@@ -27,24 +27,24 @@ fetches_spends h o number n = spends_then (fetching_spends h (Some (record { num
 
 looks_elsewhere_spends : (h : WorkerContext) (o : Id) (x : Object) (r : Option ℕ) → Spends h (looks_elsewhere_by h o x r)
 looks_elsewhere_spends h o x None =
-    spends_then {g = changes h o without_places} (spends_same refl refl) (recovers_if_lost_spends (changes h o without_places) o)
+    spends_then {g = changes h o without_locations} (spends_same refl refl) (recovers_if_lost_spends (changes h o without_locations) o)
 looks_elsewhere_spends h o x (Some n) = fetches_spends h o (settled_number x) n
 
 looks_here_spends : (h : WorkerContext) (o : Id) (x : Object) (c : Option Outcome) → Spends h (looks_here_by h o x c)
 looks_here_spends h o x None =
-    let g : WorkerContext = changes h o (without_place h.worker.node) in
+    let g : WorkerContext = changes h o (without_location h.worker.node) in
     spends_then {g = g} (spends_same refl refl)
-    (looks_elsewhere_spends g o (without_place h.worker.node x) (live_place g.worker (without_place h.worker.node x).places))
+    (looks_elsewhere_spends g o (without_location h.worker.node x) (live_location g.worker (without_location h.worker.node x).locations))
 looks_here_spends h o x (Some c) =
     let g : WorkerContext = with_store h (looked_up (store_here h) o (settled_number x)) in spends_then {g = g} (spends_same refl refl) (gets_spends g c)
 
-looks_at_places_spends : (h : WorkerContext) (o : Id) (x : Object) → Spends h (looks_at_places h o x)
-looks_at_places_spends h o x =
-    spends_if (has x.places h.worker.node) (looks_here_spends h o x (copy_in (store_here h) o (settled_number x)))
-    (looks_elsewhere_spends h o x (live_place h.worker x.places))
+looks_at_locations_spends : (h : WorkerContext) (o : Id) (x : Object) → Spends h (looks_at_locations h o x)
+looks_at_locations_spends h o x =
+    spends_if (has x.locations h.worker.node) (looks_here_spends h o x (copy_in (store_here h) o (settled_number x)))
+    (looks_elsewhere_spends h o x (live_location h.worker x.locations))
 
 looks_for_by_spends : (h : WorkerContext) (o : Id) (x : Object) (kept : Option Outcome) → Spends h (looks_for_by h o x kept)
-looks_for_by_spends h o x None = looks_at_places_spends h o x
+looks_for_by_spends h o x None = looks_at_locations_spends h o x
 looks_for_by_spends h o x (Some c) = gets_spends h c
 
 looks_for_spends : (h : WorkerContext) (o : Id) (x : Object) → Spends h (looks_for h o x)
@@ -68,16 +68,16 @@ needs_own_spends h o = spends_then (fetching_spends h None) (needs_at_spends (wi
 pub needs_own_if_waiting_spends : (h : WorkerContext) (o : Id) → Spends h (needs_own_if_waiting h o)
 needs_own_if_waiting_spends h o = spends_if (is_waiting_for h.worker o) (needs_own_spends h o) spends_none
 
-pub tells_places_spends : (ws : List ℕ) (h : WorkerContext) (o : Id) (x : Object) → Spends h (tells_places h ws o x)
-tells_places_spends [] h o x = spends_none
-tells_places_spends (w ∷ ws) h o x =
-    let g : WorkerContext = says h w (At o (settled_number x) x.places x.kept) in spends_then {g = g} (spends_same refl refl) (tells_places_spends ws g o x)
+pub tells_locations_spends : (ws : List ℕ) (h : WorkerContext) (o : Id) (x : Object) → Spends h (tells_locations h ws o x)
+tells_locations_spends [] h o x = spends_none
+tells_locations_spends (w ∷ ws) h o x =
+    let g : WorkerContext = says h w (At o (settled_number x) x.locations x.kept) in spends_then {g = g} (spends_same refl refl) (tells_locations_spends ws g o x)
 
 answers_settled_by_spends : (h : WorkerContext) (o : Id) (x : Option Object) → Spends h (answers_settled_by h o x)
 answers_settled_by_spends h o None = spends_none
 answers_settled_by_spends h o (Some x) =
     let k : WorkerContext = changes h o without_askers in
-    spends_then {g = k} (spends_same refl refl) (spends_then (tells_places_spends x.askers k o x) (needs_own_if_waiting_spends (tells_places k x.askers o x) o))
+    spends_then {g = k} (spends_same refl refl) (spends_then (tells_locations_spends x.askers k o x) (needs_own_if_waiting_spends (tells_locations k x.askers o x) o))
 
 pub answers_settled_spends : (h : WorkerContext) (o : Id) → Spends h (answers_settled h o)
 answers_settled_spends h o = answers_settled_by_spends h o (object_at h o)
@@ -89,7 +89,7 @@ tells_released_spends h o w (Some e) = spends_same {g = says h w (Gone o (fault 
 answers_asker_spends : (h : WorkerContext) (o : Id) (w : ℕ) (x : Object) (f : Option Fault) → Spends h (answers_asker h o w x f)
 answers_asker_spends h o w x None =
     let g : WorkerContext = changes h o (with_asker w) in
-    spends_if (has_content x) (spends_same {g = says h w (At o (settled_number x) x.places x.kept)} refl refl)
+    spends_if (has_content x) (spends_same {g = says h w (At o (settled_number x) x.locations x.kept)} refl refl)
     (spends_if x.is_released (tells_released_spends h o w x.dead_holder)
     (spends_if (is_lost h.worker.objects x) (spends_then {g = g} (spends_same refl refl) (recovers_spends g o)) (spends_same {g = g} refl refl)))
 answers_asker_spends h o w x (Some f) = spends_same refl refl
@@ -115,31 +115,31 @@ goes_to_spends h o number (Some n) =
     spends_if (n == h.worker.node) (answered_here_spends h o number (copy_in (store_here h) o number))
     (spends_if (has h.worker.dead_nodes n) (finds_none_spends h o number n) (fetches_spends h o number n))
 
-adds_place_by_spends : (h : WorkerContext) (o : Id) (number n : ℕ) (x : Option Object) → Spends h (adds_place_by h o number n x)
-adds_place_by_spends h o number n None = spends_none
-adds_place_by_spends h o number n (Some x) =
-    spends_if (is_present number x && may_gain_place h.worker.objects x) (spends_same {g = changes h o (with_place n)} refl refl) spends_none
+adds_location_by_spends : (h : WorkerContext) (o : Id) (number n : ℕ) (x : Option Object) → Spends h (adds_location_by h o number n x)
+adds_location_by_spends h o number n None = spends_none
+adds_location_by_spends h o number n (Some x) =
+    spends_if (is_present number x && may_gain_location h.worker.objects x) (spends_same {g = changes h o (with_location n)} refl refl) spends_none
 
-adds_places_spends : (ns : List ℕ) (h : WorkerContext) (o : Id) (number : ℕ) → Spends h (adds_places h o number ns)
-adds_places_spends [] h o number = spends_none
-adds_places_spends (n ∷ ns) h o number =
-    spends_then (adds_place_by_spends h o number n (object_at h o)) (adds_places_spends ns (adds_place h o number n) o number)
+adds_locations_spends : (ns : List ℕ) (h : WorkerContext) (o : Id) (number : ℕ) → Spends h (adds_locations h o number ns)
+adds_locations_spends [] h o number = spends_none
+adds_locations_spends (n ∷ ns) h o number =
+    spends_then (adds_location_by_spends h o number n (object_at h o)) (adds_locations_spends ns (adds_location h o number n) o number)
 
 at_answers_spends : (h : WorkerContext) (o : Id) (number : ℕ) (ns : List ℕ) (kept : Option Outcome) → Spends h (at_answers h o number ns kept)
-at_answers_spends h o number ns None = goes_to_spends h o number (chosen_place h.worker ns)
+at_answers_spends h o number ns None = goes_to_spends h o number (chosen_location h.worker ns)
 at_answers_spends h o number ns (Some c) = gets_spends h c
 
 pub at_spends : (h : WorkerContext) (o : Id) (number : ℕ) (ns : List ℕ) (kept : Option Outcome) → Spends h (at_reached h o number ns kept)
 at_spends h o number ns kept =
-    spends_if (is_own h o) (adds_places_spends ns h o number)
+    spends_if (is_own h o) (adds_locations_spends ns h o number)
     (spends_if (is_waiting_for h.worker o) (at_answers_spends h o number ns kept) spends_none)
 
 pub gone_spends : (h : WorkerContext) (o : Id) (f : Fault) → Spends h (gone_reached h o f)
 gone_spends h o f = faults_if_waiting_spends h o f
 
-takes_place_by_spends : (h : WorkerContext) (o : Id) (number n : ℕ) (x : Option Object) → Spends h (takes_place_by h o number n x)
-takes_place_by_spends h o number n None = spends_none
-takes_place_by_spends h o number n (Some x) = spends_if (is_present number x) (spends_same {g = changes h o (without_place n)} refl refl) spends_none
+takes_location_by_spends : (h : WorkerContext) (o : Id) (number n : ℕ) (x : Option Object) → Spends h (takes_location_by h o number n x)
+takes_location_by_spends h o number n None = spends_none
+takes_location_by_spends h o number n (Some x) = spends_if (is_present number x) (spends_same {g = changes h o (without_location n)} refl refl) spends_none
 
 missing_from_spends : (h : WorkerContext) (from : Endpoint) (o : Id) → Spends h (missing_from h from o)
 missing_from_spends h (TheWorker w) o = where_spends h w o
@@ -147,12 +147,12 @@ missing_from_spends h (TheNode n) o = needs_own_if_waiting_spends h o
 
 pub missing_spends : (h : WorkerContext) (from : Endpoint) (o : Id) (number n : ℕ) → Spends h (missing_reached h from o number n)
 missing_spends h from o number n =
-    spends_if (is_own h o) (spends_then (takes_place_by_spends h o number n (object_at h o)) (missing_from_spends (takes_place h o number n) from o))
+    spends_if (is_own h o) (spends_then (takes_location_by_spends h o number n (object_at h o)) (missing_from_spends (takes_location h o number n) from o))
     (spends_if (is_waiting_for h.worker o) (finds_none_spends h o number n) (spends_same {g = reports_missing h o number n} refl refl))
 
 makes_known_spends : (h : WorkerContext) (o : Id) (number : ℕ) → Spends h (makes_copy_known h o number)
 makes_known_spends h o number =
-    spends_if (is_own h o) (adds_place_by_spends h o number h.worker.node (object_at h o))
+    spends_if (is_own h o) (adds_location_by_spends h o number h.worker.node (object_at h o))
     (spends_same {g = says h o.owner (At o number (h.worker.node ∷ []) None)} refl refl)
 
 pub copy_spends : (h : WorkerContext) (o : Id) (number : ℕ) (c : Outcome) → Spends h (copy_reached h o number c)

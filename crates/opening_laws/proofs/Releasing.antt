@@ -45,7 +45,7 @@ drops_none (n ∷ ns) h e = let g : WorkerContext = says_to_node h n (Unhold e e
 
 lets_all_go_none : (h : WorkerContext) (e : Id) (x : Option Object) → OpensNone h (lets_all_go h e x)
 lets_all_go_none h e None = opens_none
-lets_all_go_none h e (Some x) = none_then (lets_go_none x.ids h e) (drops_none x.ever (lets_go h e x.ids) e)
+lets_all_go_none h e (Some x) = none_then (lets_go_none x.ids h e) (drops_none x.all_locations (lets_go h e x.ids) e)
 
 marks_none : (h : WorkerContext) (k n : ℕ) → OpensNone h (marks_released h k n)
 marks_none h k n = each_none (λ g i. changes g (own_id g i) released) (λ g i. record { same = refl }) n h k

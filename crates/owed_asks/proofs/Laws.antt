@@ -57,7 +57,7 @@ use Rattle.lease_discipline.specs.Told.{IsInStep}
 use Rattle.lease_discipline.proofs.AskEvents.{answer_asked}
 use Rattle.lease_discipline.proofs.AskLaw.{law_of_last_asks}
 use Rattle.lease_discipline.proofs.Events.{among_at}
-use Rattle.lease_discipline.proofs.Told.{events_stay_in_step, lives_there, opening_is_in_step, places}
+use Rattle.lease_discipline.proofs.Told.{events_stay_in_step, lives_there, opening_is_in_step, locations}
 use Rattle.owed_asks.specs.Law.{BirthsAreAsked, ElsewheresAreAsked, GivesAreBegun}
 use Rattle.owed_asks.specs.Routes.{KeepsRoutes, is_new, rests_now}
 use Rattle.owed_asks.proofs.RouteEvents.{events_keep_routes, opening_keeps_routes}
@@ -228,7 +228,7 @@ module _ (s : Setting) (r : Running) (keeps : RunKeeps s r) (calm : IsCalm r.log
   b = keeps.step.sound.between
 
   pub live_worker : (w : ℕ) (x : Worker) → worker_at c w ≡ Some x → x.is_live ≡ true
-  live_worker w x at = sym (b.knows.lives w x at) ∙ calm_live r.log w x.node calm (places s r.log c b w x at)
+  live_worker w x at = sym (b.knows.lives w x at) ∙ calm_live r.log w x.node calm (locations s r.log c b w x at)
 
   negated : (t : Bool) → not t ≡ false → t ≡ true
   negated true e = refl
@@ -282,7 +282,7 @@ module _ (s : Setting) (r : Running) (keeps : RunKeeps s r) (calm : IsCalm r.log
     pub task : OwnTask
     pub own : task_of (item_at owner.objects a.object.serial) ≡ Some task
     pub number : task.number ≡ a.number
-    pub t : ℕ
+    pub hops : ℕ
     pub node : ℕ
     pub stands : task.progress ≡ AskedAt t node
     pub spec : birth_at (births r.log) a.object ≡ Some task.spec
@@ -318,7 +318,7 @@ module _ (s : Setting) (r : Running) (keeps : RunKeeps s r) (calm : IsCalm r.log
               task = task;
               own = own;
               number = omega (arith, le, most);
-              t = t;
+              hops = t;
               node = n;
               stands = e;
               spec = spec;
@@ -336,15 +336,15 @@ module _ (s : Setting) (r : Running) (keeps : RunKeeps s r) (calm : IsCalm r.log
       ]
 
   -- what stands is the last ask
-  last_ask : (a : Attempt) (q : IsAskedFor a) → IsLast (IsDeadNode c) c.network a q.t q.node
+  last_ask : (a : Attempt) (q : IsAskedFor a) → IsLast (IsDeadNode c) c.network a q.hops q.node
   last_ask a q =
-      subst (λ i. IsLast (IsDeadNode c) c.network i q.t q.node) (ap (attempt a.object) q.number)
-      ((keeps.asks.owners a.object.owner q.owner q.there).stands a.object.serial q.task q.t q.node q.own q.stands)
+      subst (λ i. IsLast (IsDeadNode c) c.network i q.hops q.node) (ap (attempt a.object) q.number)
+      ((keeps.asks.owners a.object.owner q.owner q.there).stands a.object.serial q.task q.hops q.node q.own q.stands)
 
   alive : (n : ℕ) → IsDeadNode c n → ⊥
   alive n (node, at, off) = let live = live_node n node at in absurd (cc)
 
-  asked_now : (a : Attempt) (q : IsAskedFor a) (t : ℕ) → q.t ≡ t → if_asked t a q.task ≡ true
+  asked_now : (a : Attempt) (q : IsAskedFor a) (t : ℕ) → q.hops ≡ t → if_asked t a q.task ≡ true
   asked_now a q t same =
       let numbers : (q.task.number == a.number) ≡ true = ap (λ i. i == a.number) q.number ∙ eq-eqb a.number a.number refl in
       let stands : stands_at q.task.progress t ≡ true = ap (λ p. stands_at p t) q.stands ∙ ap (λ i. i == t) same ∙ eq-eqb t t refl in
@@ -373,7 +373,7 @@ module _ (s : Setting) (r : Running) (keeps : RunKeeps s r) (calm : IsCalm r.log
       let came = among_at c.network k _ sent in
       let asked : Asked c.network a t n = answer_asked c keeps.right keeps.asks n t a (Give a t v) (inl (v, refl)) came in
       let q : IsAskedFor a = asked_for a unbegun (inl (t, n, asked)) in
-      let now : q.t ≡ t = elim (last_ask a q t n asked) [
+      let now : q.hops ≡ t = elim (last_ask a q t n asked) [
         | inl (same, _) ↦ sym same
         | inr (_, passed) ↦ absurd (unpassed came passed)
       ] in
@@ -433,7 +433,7 @@ module _ (s : Setting) (r : Running) (keeps : RunKeeps s r) (calm : IsCalm r.log
       let came = among_at c.network k _ sent in
       let asked : Asked c.network a t n = answer_asked c keeps.right keeps.asks n t a (Elsewhere a t m) (inr (inl (m, refl))) came in
       let q : IsAskedFor a = asked_for a unbegun (inl (t, n, asked)) in
-      let now : q.t ≡ t = elim (last_ask a q t n asked) [ inl (same, _) ↦ sym same | inr (less, _) ↦ absurd (earlier q less) ] in
+      let now : q.hops ≡ t = elim (last_ask a q t n asked) [ inl (same, _) ↦ sym same | inr (less, _) ↦ absurd (earlier q less) ] in
       let node = home a.object.owner q.owner q.there in
       let h : WorkerContext = here c a.object.owner q.owner node.0 in
       let done = elsewhere_is_asked h n a t m q.task (found a q node.0) (asked_now a q t now) (no_dead a.object.owner q.owner q.there) in
@@ -444,12 +444,12 @@ module _ (s : Setting) (r : Running) (keeps : RunKeeps s r) (calm : IsCalm r.log
       (subst (λ i. Sends (release_step (reached h (TheNode n) (Elsewhere a t m))).there.out.envelopes (TheWorker a.object.owner) (TheNode m) (Ask i
       (t + 1))) is done)
     where
-      earlier : (q : IsAskedFor a) → t < q.t → ⊥
+      earlier : (q : IsAskedFor a) → t < q.hops → ⊥
       earlier q less =
-          let standing : Asked c.network a q.t q.node =
-          subst (λ i. Asked c.network i q.t q.node) (ap (attempt a.object) q.number)
-          ((keeps.routes.owners a.object.owner q.owner q.there).standing a.object.serial q.task q.t q.node q.own q.stands) in
-          let gap = gap_of t q.t less in
+          let standing : Asked c.network a q.hops q.node =
+          subst (λ i. Asked c.network i q.hops q.node) (ap (attempt a.object) q.number)
+          ((keeps.routes.owners a.object.owner q.owner q.there).standing a.object.serial q.task q.hops q.node q.own q.stands) in
+          let gap = gap_of t q.hops less in
           let f = asked_below a (t + 1) gap.0 q.node (subst (λ u. Asked c.network a u q.node) gap.1 standing) in
           let by = same_worker f.1.0 a.object.owner (keeps.routes.envelopes _ f.1.1) in
           latest f.0 (subst (λ u. Sends c.network (TheWorker u) (TheNode f.0) (Ask a (t + 1))) by f.1.1)
@@ -557,7 +557,7 @@ module _ (s : Setting) (r : Running) (keeps : RunKeeps s r) (calm : IsCalm r.log
       birth_stands (setting_of s next) log legal o a (Task f args depth retries others)
       (subst (λ es. Among (Born o a (Task f args depth retries others)) es) (sym grows) (behind r.log (In event seat) entries (Born o a
       (Task f args depth retries others)) born)) in
-      let node : x.0.node ≡ n = same_node x.0.node n (sym (places s log next d o.owner x.0 x.1) ∙ place) in
+      let node : x.0.node ≡ n = same_node x.0.node n (sym (locations s log next d o.owner x.0 x.1) ∙ place) in
       by_task x.0 x.1 k stands node (task_of (item_at x.0.objects o.serial)) refl
     where
       same_node : (m n : ℕ) → ◌≡◌ {A = Option ℕ} (Some m) (Some n) → m ≡ n

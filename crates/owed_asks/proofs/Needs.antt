@@ -26,7 +26,7 @@ use Rattle.protocol.specs.Deliveries.{reached}
 use Rattle.protocol.specs.Cluster.{ClusterState, after_worker, here, node_at, worker_at, worker_does_at, worker_does_by}
 use Rattle.protocol.specs.Events.{committed_by, happens, is_live_worker, with_committed, objects_made}
 use Rattle.protocol.specs.Answers.{Step, Takes, decided}
-use Rattle.protocol.specs.Places.{needs_own}
+use Rattle.protocol.specs.Locations.{needs_own}
 use Rattle.protocol.specs.Refusals.{commit_refusal, is_of_job, is_out_by, refusal, unless}
 use Rattle.protocol_owed.specs.Courses.{GoesOn, HasStopped, Pace, Rests}
 use Rattle.protocol_owed.specs.Runs.{Running, after_event, after_events, opening_run}

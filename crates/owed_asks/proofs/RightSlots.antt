@@ -18,7 +18,7 @@ use Rattle.protocol_owed.proofs.Opening.{opens-full, runs-full}
 use Rattle.protocol_owed.specs.Told.{IsAsTold}
 use Rattle.lease_discipline.specs.Slots.{AreRight}
 use Rattle.lease_discipline.proofs.SlotLaw.{law_of_kept_slots}
-use Rattle.lease_discipline.proofs.Told.{logs_tell, places}
+use Rattle.lease_discipline.proofs.Told.{logs_tell, locations}
 use Rattle.owed_asks.specs.Law.{SlotsAreAllRight}
 use Rattle.owed_asks.proofs.Laws.{RunKeeps, all_right, one_more, runs_keep}
 use Rattle.owed_asks.proofs.SlotUsers.{HasUse, IsUser}
@@ -106,7 +106,7 @@ module _ (s : Setting) (r : Running) (keeps : RunKeeps s r) (uses : KeepsUses r.
   runner n w u =
       let x : Worker = u.here.worker in
       let told : IsAsTold (course (seen s r) w) x = logs_tell s r.log c keeps.step w x u.here.there u.here.lives in (
-        record { place = places s r.log c b w x u.here.there ∙ ap (λ m. Some m) u.here.home; lives = b.knows.lives w x u.here.there ∙ u.here.lives },
+        record { place = locations s r.log c b w x u.here.there ∙ ap (λ m. Some m) u.here.home; lives = b.knows.lives w x u.here.there ∙ u.here.lives },
         by_use x told u.why,
       )
     where
@@ -115,17 +115,17 @@ module _ (s : Setting) (r : Running) (keeps : RunKeeps s r) (uses : KeepsUses r.
       by_use x told (inr (inl out)) = inr (inl (out.0, told.pace ∙ out.1))
       by_use x told (inr (inr leased)) = inl (record {
         attempt = leased.0;
-        t = leased.1.0;
+        hops = leased.1.0;
         node = n;
         given = leased.1.1;
         unbegun = told.began leased.0 ∙
             leased.2;
       })
 
-  pub of_runners : (n : ℕ) (node : Node) → node_at c n ≡ Some node → node.is_live ≡ true → (w : ℕ) → has ((seen s r).holders n) w ≡ true →
+  pub of_runners : (n : ℕ) (node : Node) → node_at c n ≡ Some node → node.is_live ≡ true → (w : ℕ) → has ((seen s r).slot_holders n) w ≡ true →
       LivesOn (seen s r) w n × IsOneToRun (seen s r) w
   of_runners n node at live w e =
-      elim ((uses n node at live).holders w (ap (λ o. has (holders_in o) w) (sym at) ∙ e)) [ inl u ↦ runner n w u | inr f ↦ absurd f ]
+      elim ((uses n node at live).slot_holders w (ap (λ o. has (holders_in o) w) (sym at) ∙ e)) [ inl u ↦ runner n w u | inr f ↦ absurd f ]
 
 pub slots_are_all_right : SlotsAreAllRight
 slots_are_all_right s slots some slot apart gs right n lives =

@@ -83,7 +83,7 @@ pub record IsAnswered (look : Look) (n w : ℕ) : Type 0 where
 
 -- but for those of the first kind, who may keep a slot without use, and those of the second, of whom nothing is known
 pub record Used (but gone : ℕ → Type 0) (look : Look) (sent : List Envelope) (n : ℕ) (s : Scheduler) : Type 0 where
-  pub holders : (w : ℕ) → has s.holders w ≡ true → IsUser look sent n w ⊎ but w
+  pub slot_holders : (w : ℕ) → has s.slot_holders w ≡ true → IsUser look sent n w ⊎ but w
   pub answered : (w : ℕ) → has s.answered w ≡ true → IsAnswered look n w ⊎ gone w
   pub idle : (w : ℕ) → has s.idle w ≡ true → IsHere look n w ⊎ gone w
   pub leased : (w : ℕ) (a : Attempt) → is_latest_lease s w a ≡ true → IsHere look n w ⊎ gone w
@@ -116,7 +116,7 @@ here_kept look next n w forth h = record { worker = h.worker; there = forth w h.
 pub used_more : (but gone : ℕ → Type 0) (look next : Look) (s t : List Envelope) (n : ℕ) (sch : Scheduler) → More s t →
     ((v : ℕ) (x : Worker) → look v ≡ Some x → x.node ≡ n → next v ≡ Some x) → Used but gone look s n sch → Used but gone next t n sch
 used_more but gone look next s t n sch more forth u = record {
-  holders = λ w e. elim (u.holders w e) [
+  slot_holders = λ w e. elim (u.slot_holders w e) [
     | inl f ↦ inl (record { here = here_kept look next n w forth f.here; why = use_more s t n w f.here.worker more f.why })
     | inr f ↦ inr f
   ];
@@ -127,7 +127,7 @@ used_more but gone look next s t n sch more forth u = record {
 
 -- the scheduler has no more
 pub record IsLess (s t : Scheduler) : Type 0 where
-  pub holders : (w : ℕ) → has t.holders w ≡ true → has s.holders w ≡ true
+  pub slot_holders : (w : ℕ) → has t.slot_holders w ≡ true → has s.slot_holders w ≡ true
   pub answered : (w : ℕ) → has t.answered w ≡ true → has s.answered w ≡ true
   pub idle : (w : ℕ) → has t.idle w ≡ true → has s.idle w ≡ true
   pub leases : (w : ℕ) (a : Attempt) → is_latest_lease t w a ≡ true → is_latest_lease s w a ≡ true
@@ -135,7 +135,7 @@ pub record IsLess (s t : Scheduler) : Type 0 where
 pub used_less : (but gone : ℕ → Type 0) (look : Look) (sent : List Envelope) (n : ℕ) (s t : Scheduler) → IsLess s t → Used but gone look sent n s →
     Used but gone look sent n t
 used_less but gone look sent n s t less u = record {
-  holders = λ w e. u.holders w (less.holders w e);
+  slot_holders = λ w e. u.slot_holders w (less.slot_holders w e);
   answered = λ w e. u.answered w (less.answered w e);
   idle = λ w e. u.idle w (less.idle w e);
   leased = λ w a e. u.leased w a (less.leases w a e);
@@ -145,7 +145,7 @@ used_less but gone look sent n s t less u = record {
 pub used_so : (but gone more_but more_gone : ℕ → Type 0) (look : Look) (sent : List Envelope) (n : ℕ) (s : Scheduler) → ((w : ℕ) → but w → more_but w) →
     ((w : ℕ) → gone w → more_gone w) → Used but gone look sent n s → Used more_but more_gone look sent n s
 used_so but gone more_but more_gone look sent n s f g u = record {
-  holders = λ w e. elim (u.holders w e) [ inl h ↦ inl h | inr h ↦ inr (f w h) ];
+  slot_holders = λ w e. elim (u.slot_holders w e) [ inl h ↦ inl h | inr h ↦ inr (f w h) ];
   answered = λ w e. elim (u.answered w e) [ inl h ↦ inl h | inr h ↦ inr (g w h) ];
   idle = λ w e. elim (u.idle w e) [ inl h ↦ inl h | inr h ↦ inr (g w h) ];
   leased = λ w a e. elim (u.leased w a e) [ inl h ↦ inl h | inr h ↦ inr (g w h) ];
@@ -196,19 +196,19 @@ module _ (ws : List Worker) (net : List Envelope) (n : ℕ) (but gone : ℕ → 
   leases_used : (t : NodeContext) (k : AskKey) (w : ℕ) → Counts t → (h : IsHere (look_in t) n w) → has_begun k.attempt h.worker.began ≡ false → UsedThere t →
       UsedThere (leases_worker t k w)
   leases_used t k w c h unbegun u =
-      let l : Envelope = envelope (TheNode t.number) (TheWorker k.attempt.object.owner) (Give k.attempt k.t w) in
+      let l : Envelope = envelope (TheNode t.number) (TheWorker k.attempt.object.owner) (Give k.attempt k.hops w) in
       let sent : List Envelope = with_envelope net t.out.envelopes l in
       let more : More (sent_in t) sent = envelope_more net t.out.envelopes l in
       let v : Used but gone (look_in t) sent n t.node.scheduler = used_more but gone (look_in t) (look_in t) (sent_in t) sent n t.node.scheduler more
       (λ i x e _. e) u in
       let gave : Gave sent n k.attempt w = (
-        k.t,
-        subst (λ m. Among (envelope (TheNode m) (TheWorker k.attempt.object.owner) (Give k.attempt k.t w)) sent) c.number
+        k.hops,
+        subst (λ m. Among (envelope (TheNode m) (TheWorker k.attempt.object.owner) (Give k.attempt k.hops w)) sent) c.number
             (envelope_last net t.out.envelopes l),
       ) in
       record {
-        holders = λ i e. elim (has-push t.node.scheduler.holders w i e) [
-          | inl f ↦ v.holders i f
+        slot_holders = λ i e. elim (has-push t.node.scheduler.slot_holders w i e) [
+          | inl f ↦ v.slot_holders i f
           | inr same ↦ inl (subst (IsUser (look_in t) sent n) same (record { here = h; why = inr (inr (k.attempt, gave, unbegun)) }))
         ];
         answered = v.answered;
@@ -245,15 +245,15 @@ module _ (ws : List Worker) (net : List Envelope) (n : ℕ) (but gone : ℕ → 
       gives_used v k (record { number = c.number; counted = c.counted }) present
       (λ w x i there. fresh w x k i there (first_key t.node.scheduler.queue k e))
       (used_less but gone (look_in t) (sent_in t) n t.node.scheduler v.node.scheduler
-      (record { holders = λ w i. i; answered = λ w i. i; idle = λ w i. i; leases = λ w a i. i }) u)
+      (record { slot_holders = λ w i. i; answered = λ w i. i; idle = λ w i. i; leases = λ w a i. i }) u)
 
   grants_next_used : (t : NodeContext) (o : Option ℕ) → first_item t.node.scheduler.answered ≡ o → Counts t →
       ((w : ℕ) → has t.node.scheduler.idle w ≡ true → gone w → ⊥) → ((w : ℕ) → has t.node.scheduler.answered w ≡ true → gone w → ⊥) →
       IsFresh (look_in t) t.node.scheduler → UsedThere t → UsedThere (grants_next t o)
   grants_next_used t None e c present asking fresh u = grants_queued_used t (first_item t.node.scheduler.queue) refl c present fresh u
   grants_next_used t (Some w) e c present asking fresh u = record {
-    holders = λ v f. elim (has-push t.node.scheduler.holders w v f) [
-      | inl g ↦ u.holders v g
+    slot_holders = λ v f. elim (has-push t.node.scheduler.slot_holders w v f) [
+      | inl g ↦ u.slot_holders v g
       | inr same ↦
           let first : has t.node.scheduler.answered w ≡ true = has-first t.node.scheduler.answered w e in
           elim (u.answered w first) [
@@ -282,23 +282,23 @@ module _ (ws : List Worker) (net : List Envelope) (n : ℕ) where
   pub frees_used : (t : NodeContext) (w : ℕ) → Counts ws net n (One w) Nobody t → IsFresh (look_in ws net n (One w) Nobody t) t.node.scheduler →
       UsedThere ws net n (One w) Nobody t → UsedThere ws net n Nobody Nobody (frees t w)
   frees_used t w c fresh u =
-      at_test (λ b. has t.node.scheduler.holders w ≡ b → UsedThere ws net n Nobody Nobody (if b then grants (with_scheduler t s) else t))
-      (has t.node.scheduler.holders w)
+      at_test (λ b. has t.node.scheduler.slot_holders w ≡ b → UsedThere ws net n Nobody Nobody (if b then grants (with_scheduler t s) else t))
+      (has t.node.scheduler.slot_holders w)
       (λ _ _. grants_used ws net n Nobody Nobody (with_scheduler t s) (record { number = c.number; counted = c.counted }) (none_gone s.idle)
       (none_gone s.answered) fresh
       (record {
-        holders = λ v e. elim (u.holders v (has-left t.node.scheduler.holders w v e)) [
+        slot_holders = λ v e. elim (u.slot_holders v (has-left t.node.scheduler.slot_holders w v e)) [
           | inl f ↦ inl f
-          | inr same ↦ absurd (not_left t.node.scheduler.holders w v e (sym same))
+          | inr same ↦ absurd (not_left t.node.scheduler.slot_holders w v e (sym same))
         ];
         answered = u.answered;
         idle = u.idle;
         leased = u.leased;
       }))
       (λ _ slotless. record {
-        holders = λ v e. elim (u.holders v e) [
+        slot_holders = λ v e. elim (u.slot_holders v e) [
           | inl f ↦ inl f
-          | inr same ↦ absurd (both_ways (has t.node.scheduler.holders w) slotless (subst (λ i. has t.node.scheduler.holders i ≡ true) same e))
+          | inr same ↦ absurd (both_ways (has t.node.scheduler.slot_holders w) slotless (subst (λ i. has t.node.scheduler.slot_holders i ≡ true) same e))
         ];
         answered = u.answered;
         idle = u.idle;
@@ -313,12 +313,12 @@ module _ (ws : List Worker) (net : List Envelope) (n : ℕ) where
       IsAnswered (look_in ws net n but Nobody t) n w → UsedThere ws net n but Nobody t → UsedThere ws net n but Nobody (asks_slot t w)
   slot_used but t w c fresh asks u =
       at_test (λ b. UsedThere ws net n but Nobody (if b then t else grants (with_scheduler t s)))
-      (has t.node.scheduler.holders w || has t.node.scheduler.answered w)
+      (has t.node.scheduler.slot_holders w || has t.node.scheduler.answered w)
       (λ _. u)
       (λ _. grants_used ws net n but Nobody (with_scheduler t s) (record { number = c.number; counted = c.counted }) (none_gone s.idle) (none_gone s.answered)
       (λ v x k e there queued. fresh v x k (has-left t.node.scheduler.idle w v e) there queued)
       (record {
-        holders = u.holders;
+        slot_holders = u.slot_holders;
         answered = λ v e. elim (has-push t.node.scheduler.answered w v e) [
           | inl f ↦ u.answered v f
           | inr same ↦ inl (subst (IsAnswered
@@ -338,7 +338,7 @@ module _ (ws : List Worker) (net : List Envelope) (n : ℕ) where
       frees_used (with_scheduler t s) w (record { number = c.number; counted = c.counted })
       (λ v x k e there queued. fresh v x k (has-left t.node.scheduler.idle w v e) there queued)
       (record {
-        holders = u.holders;
+        slot_holders = u.slot_holders;
         answered = λ v e. elim (u.answered v (has-left t.node.scheduler.answered w v e)) [
           | inl f ↦ inl f
           | inr same ↦ absurd
@@ -364,7 +364,7 @@ module _ (ws : List Worker) (net : List Envelope) (n : ℕ) where
   abbrev T : NodeContext → Type 0
   T t = UsedThere ws net n Nobody Nobody t
 
-  -- a envelope is sent, and the scheduler has no more
+  -- an envelope is sent, and the scheduler has no more
   said_used : (t : NodeContext) (s : Scheduler) (l : Envelope) → IsLess t.node.scheduler s → T t →
       Used Nobody Nobody (look_in ws net n Nobody Nobody t) (with_envelope net t.out.envelopes l) n s
   said_used t s l less u =
@@ -374,7 +374,7 @@ module _ (ws : List Worker) (net : List Envelope) (n : ℕ) where
       t.node.scheduler (envelope_more net t.out.envelopes l) (λ i x e _. e) u)
 
   same_less : (s : Scheduler) → IsLess s s
-  same_less s = record { holders = λ w i. i; answered = λ w i. i; idle = λ w i. i; leases = λ w a i. i }
+  same_less s = record { slot_holders = λ w i. i; answered = λ w i. i; idle = λ w i. i; leases = λ w a i. i }
 
   pub asked_used : (t : NodeContext) (k : AskKey) → Counts ws net n Nobody Nobody t →
       (reply_to t.node.scheduler k ≡ None → IsFreshFor (look_in ws net n Nobody Nobody t) t.node.scheduler k) → T t →
@@ -384,9 +384,9 @@ module _ (ws : List Worker) (net : List Envelope) (n : ℕ) where
       by_reply : (x : Option AskReply) → reply_to t.node.scheduler k ≡ x → T (asked_by t k x)
       by_reply None e = at_test (λ b. T (if b then gives_worker t k else has_no_slot_for t k)) (has_free_slot t.node.scheduler)
           (λ _. gives_used ws net n Nobody Nobody t k c (none_gone t.node.scheduler.idle) (fresh e) u)
-          (λ _. at_test (λ b. T (if b then replies_anew t k (SentOn (next_in_circle t.nodes t.number)) else queues t k)) (nat_lt (k.t + 1) t.nodes)
-          (λ _. said_used t _ _ (record { holders = λ w i. i; answered = λ w i. i; idle = λ w i. i; leases = λ w a i. i }) u)
-          (λ _. said_used t _ _ (record { holders = λ w i. i; answered = λ w i. i; idle = λ w i. i; leases = λ w a i. i }) u))
+          (λ _. at_test (λ b. T (if b then replies_anew t k (SentOn (next_in_circle t.nodes t.number)) else queues t k)) (nat_lt (k.hops + 1) t.nodes)
+          (λ _. said_used t _ _ (record { slot_holders = λ w i. i; answered = λ w i. i; idle = λ w i. i; leases = λ w a i. i }) u)
+          (λ _. said_used t _ _ (record { slot_holders = λ w i. i; answered = λ w i. i; idle = λ w i. i; leases = λ w a i. i }) u))
       by_reply (Some x) e = said_used t t.node.scheduler _ (same_less t.node.scheduler) u
 
   back_used : (t : NodeContext) (w : ℕ) (a : Attempt) → T t → T (is_back t w a)
@@ -394,7 +394,7 @@ module _ (ws : List Worker) (net : List Envelope) (n : ℕ) where
       at_test (λ b. may_be_idle t.node.scheduler w a ≡ b →
       T (if b then with_scheduler t (with_idle t.node.scheduler w) else t)) (may_be_idle t.node.scheduler w a)
       (λ _ e. record {
-        holders = u.holders;
+        slot_holders = u.slot_holders;
         answered = u.answered;
         idle = λ v f. elim (has-with t.node.scheduler.idle w v f) [
           | inl g ↦ u.idle v g
@@ -404,8 +404,8 @@ module _ (ws : List Worker) (net : List Envelope) (n : ℕ) where
       }) (λ _ _. u) refl
     where
       latest : may_be_idle t.node.scheduler w a ≡ true → is_latest_lease t.node.scheduler w a ≡ true
-      latest e = and_left (is_latest_lease t.node.scheduler w a) (not (has t.node.scheduler.holders w))
-          (and_left (is_latest_lease t.node.scheduler w a && not (has t.node.scheduler.holders w)) (not (has t.node.scheduler.answered w)) e)
+      latest e = and_left (is_latest_lease t.node.scheduler w a) (not (has t.node.scheduler.slot_holders w))
+          (and_left (is_latest_lease t.node.scheduler w a && not (has t.node.scheduler.slot_holders w)) (not (has t.node.scheduler.answered w)) e)
 
   fetched_used : (t : NodeContext) (o : Id) (number w : ℕ) (c : Option Outcome) → T t → T (fetched t o number w c)
   fetched_used t o number w None u = said_used t t.node.scheduler _ (same_less t.node.scheduler) u

@@ -116,7 +116,7 @@ module _ (c : ClusterState) (k : Knowing c) (n : ℕ) (node : Node) (at : node_a
         elim (closed.last t n asked) [
           | inl (same, _) ↦
               let sent = subst (λ j. Among (envelope (TheNode n) (TheWorker a.object.owner) (Give a j w)) c.network) (sym same)
-              (subst (λ j. Among (envelope (TheNode j) (TheWorker a.object.owner) (Give a closed.t w)) c.network) home closed.given) in
+              (subst (λ j. Among (envelope (TheNode j) (TheWorker a.object.owner) (Give a closed.hops w)) c.network) home closed.given) in
               unanswered (reply_in node.scheduler.asks (ask_key a t)) a t w reply (told a t (Give a t w) (inl (w, refl)) sent)
           | inr (_, passed) ↦ unpassed passed reply
         ]
@@ -135,7 +135,7 @@ module _ (c : ClusterState) (k : Knowing c) (n : ℕ) (node : Node) (at : node_a
   pub fresh_node : IsFresh (worker_at c) node.scheduler
   fresh_node w x key idle there queued =
       let waits : reply_to node.scheduler key ≡ Some Queued = (k.right.each n node at).queue.waiting key queued in
-      unbegun_key w x key.attempt key.t idle there (inr waits) (k.asks.nodes n node key Queued at waits)
+      unbegun_key w x key.attempt key.hops idle there (inr waits) (k.asks.nodes n node key Queued at waits)
 
 -- ---- the worker's own steps
 
@@ -367,7 +367,7 @@ claim_event c w e knowing k =
     let f : is_ready_on c w (Some x) ≡ true = ap (is_ready_on c w) (sym at) ∙ ready in
     let slot : has_slot w (Some node) ≡ true = ap (has_slot w) (sym home) ∙ and_right (x.is_live && is_ready_run x.run) (has_slot w (node_at c x.node)) f in
     claim_uses d w x.node x at (here d w x node) (length c.jobs + 1)
-    (false_from_ne_true (has node.scheduler.answered w) (λ asks. both_ways (has node.scheduler.holders w) ((knowing.full.each x.node node home).parts.apart w asks) slot)) u) k
+    (false_from_ne_true (has node.scheduler.answered w) (λ asks. both_ways (has node.scheduler.slot_holders w) ((knowing.full.each x.node node home).parts.apart w asks) slot)) u) k
 
 commit_event : (c : ClusterState) (j : ℕ) (handed : CommitInput) (g : Option JobRecord) → commit_refusal c j handed g ≡ None → Knowing c → KeepsUses c →
     KeepsUses (committed_by c j handed g).whole
@@ -412,7 +412,7 @@ module _ (c d : ClusterState) (i w : ℕ) (from : Endpoint) (x : Worker) (at : w
       let unbegun : has_begun a x.began ≡ false = negated (has_begun a x.began) (and_right (is_free x.run) (not (has_begun a x.began)) e) in
       let slot = (promise c knowing.leases i w from a spec x node sent there_too home live unbegun).slot in
       push_uses d w x.node x at start a spec
-      (false_from_ne_true (has node.scheduler.idle w) (λ idle. both_ways (has node.scheduler.holders w) ((knowing.leases.nodes x.node node home).idle w idle).slotless slot)) u)
+      (false_from_ne_true (has node.scheduler.idle w) (λ idle. both_ways (has node.scheduler.slot_holders w) ((knowing.leases.nodes x.node node home).idle w idle).slotless slot)) u)
       (λ _ _. u) refl
 
   heard_worker : (u : ℕ) → from ≡ TheWorker u → (m : Message) → item_at c.network i ≡ Some (envelope from (TheWorker w) m) → Q start →
@@ -545,9 +545,9 @@ kill_event c w live knowing k = by_worker (worker_at c w) refl live
 
         but_one : Used Nobody Nobody (worker_at c) c.network x.node node.scheduler → Used (One w) (One w) (worker_at d) c.network x.node node.scheduler
         but_one u = record {
-          holders = λ v e. elim (by_number v w) [
+          slot_holders = λ v e. elim (by_number v w) [
             | inl same ↦ inr same
-            | inr apart ↦ elim (u.holders v e) [
+            | inr apart ↦ elim (u.slot_holders v e) [
               | inl f ↦ inl (record {
                 here = record { worker = f.here.worker; there = changed_elsewhere c.workers w v dead f.here.worker apart f.here.there; home = f.here.home; lives = f.here.lives };
                 why = f.why;
@@ -605,7 +605,7 @@ join_event : (c : ClusterState) → KeepsUses c → KeepsUses (record c { nodes 
 join_event c k n node e live = elim (push_cases c.nodes n (new_node c.slots) node e) [
   | inl old ↦ k n node old live
   | inr (_, is) ↦ subst (λ (x : Node). Used Nobody Nobody (worker_at c) c.network n x.scheduler) is
-      (record { holders = λ w f. absurd (cc); answered = λ w f. absurd (cc); idle = λ w f. absurd (cc); leased = λ w a f. absurd (cc) })
+      (record { slot_holders = λ w f. absurd (cc); answered = λ w f. absurd (cc); idle = λ w f. absurd (cc); leased = λ w a f. absurd (cc) })
 ]
 
 -- ---- every event
@@ -659,18 +659,18 @@ opening_keeps_uses nodes slots n node e live = elim (changed_cases (repeated nod
   | inr (_, at) ↦
       let new : new_node slots ≡ node = one_of 1 nodes n (new_node slots) node (counted (repeated nodes (new_node slots)) n at) in
       subst (λ (y : Node). Used Nobody Nobody (worker_at (first_whole nodes slots)) [] n y.scheduler) new
-      (record { holders = λ w f. absurd (cc); answered = λ w f. absurd (cc); idle = λ w f. absurd (cc); leased = λ w a f. absurd (cc) })
+      (record { slot_holders = λ w f. absurd (cc); answered = λ w f. absurd (cc); idle = λ w f. absurd (cc); leased = λ w a f. absurd (cc) })
 ]
   where
     with_slot : Node → Node
-    with_slot x = record x { scheduler = record x.scheduler { holders = 1 ∷ [] } }
+    with_slot x = record x { scheduler = record x.scheduler { slot_holders = 1 ∷ [] } }
 
     one_holder : (w : ℕ) → has (1 ∷ []) w ≡ true → 1 ≡ w
     one_holder w f = elim (or_cases (1 == w) false f) [ inl g ↦ eqb-true 1 w g | inr g ↦ absurd (cc) ]
 
     of_driver : (n : ℕ) → n ≡ 1 → Used Nobody Nobody (worker_at (first_whole nodes slots)) [] n (with_slot (new_node slots)).scheduler
     of_driver n one = record {
-      holders = λ w f. inl (subst (IsUser (worker_at (first_whole nodes slots)) [] n) (one_holder w f)
+      slot_holders = λ w f. inl (subst (IsUser (worker_at (first_whole nodes slots)) [] n) (one_holder w f)
           (record { here = record { worker = driver; there = refl; home = sym one; lives = refl }; why = inl refl }));
       answered = λ w f. absurd (cc);
       idle = λ w f. absurd (cc);

@@ -75,14 +75,14 @@ grants_narrow t =
 frees_narrow : (t : NodeContext) (w : ℕ) → Narrows (sch t) (sch (frees t w))
 frees_narrow t w =
     let s : Scheduler = without_slot (sch t) w in
-    at_test (λ b. Narrows (sch t) (sch (if b then grants (with_scheduler t s) else t))) (has (sch t).holders w)
+    at_test (λ b. Narrows (sch t) (sch (if b then grants (with_scheduler t s) else t))) (has (sch t).slot_holders w)
     (λ _. narrows_then (sch t) s (sch (grants (with_scheduler t s))) (record { idle = λ v e. e; queue = λ j e. e }) (grants_narrow (with_scheduler t s)))
     (λ _. as_wide (sch t))
 
 slot_narrow : (t : NodeContext) (w : ℕ) → Narrows (sch t) (sch (asks_slot t w))
 slot_narrow t w =
     let s : Scheduler = with_answered (sch t) w in
-    at_test (λ b. Narrows (sch t) (sch (if b then t else grants (with_scheduler t s)))) (has (sch t).holders w || has (sch t).answered w)
+    at_test (λ b. Narrows (sch t) (sch (if b then t else grants (with_scheduler t s)))) (has (sch t).slot_holders w || has (sch t).answered w)
     (λ _. as_wide (sch t))
     (λ _. narrows_then (sch t) s (sch (grants (with_scheduler t s))) (record { idle = λ v e. has-left (sch t).idle w v e; queue = λ j e. e })
     (grants_narrow (with_scheduler t s)))
@@ -160,7 +160,7 @@ module _ (c : ClusterState) (me n : ℕ) (old : Worker) (there : item_at c.worke
   -- the worker has become y
   pub worker_uses_by : (p q : Option Pace) (h : WorkerContext) (y : Worker) → y.node ≡ h.worker.node → y.is_live ≡ h.worker.is_live →
       ((k : AskKey) → has h.there.node.scheduler.idle me ≡ true → has_begun k.attempt y.began ≡ has_begun k.attempt h.worker.began) →
-      (has h.there.node.scheduler.holders me ≡ true → HasUse (sent_so h) n me y ⊎ (q ≡ Some (pace_by y.run))) →
+      (has h.there.node.scheduler.slot_holders me ≡ true → HasUse (sent_so h) n me y ⊎ (q ≡ Some (pace_by y.run))) →
       (has h.there.node.scheduler.answered me ≡ true → pace_by y.run ≡ GoesOn) → Uses p h → Uses q (with_worker h y)
   worker_uses_by p q h y node live began slot asks u = record {
     who = u.who;
@@ -169,9 +169,9 @@ module _ (c : ClusterState) (me n : ℕ) (old : Worker) (there : item_at c.worke
     number = u.number;
     counted = u.counted;
     used = record {
-      holders = λ w e. elim (by_number w me) [
-        | inl same ↦ mine w same (slot (subst (λ v. has h.there.node.scheduler.holders v ≡ true) same e))
-        | inr apart ↦ elim (u.used.holders w e) [
+      slot_holders = λ w e. elim (by_number w me) [
+        | inl same ↦ mine w same (slot (subst (λ v. has h.there.node.scheduler.slot_holders v ≡ true) same e))
+        | inr apart ↦ elim (u.used.slot_holders w e) [
           | inl f ↦ inl (record { here = moved_here h y w apart f.here; why = f.why })
           | inr f ↦ absurd (apart f.0)
         ]
@@ -210,7 +210,7 @@ module _ (c : ClusterState) (me n : ℕ) (old : Worker) (there : item_at c.worke
 
   -- so where it began no other attempt
   pub worker_uses : (p q : Option Pace) (h : WorkerContext) (y : Worker) → y.node ≡ h.worker.node → y.is_live ≡ h.worker.is_live → y.began ≡ h.worker.began →
-      (has h.there.node.scheduler.holders me ≡ true → HasUse (sent_so h) n me y ⊎ (q ≡ Some (pace_by y.run))) →
+      (has h.there.node.scheduler.slot_holders me ≡ true → HasUse (sent_so h) n me y ⊎ (q ≡ Some (pace_by y.run))) →
       (has h.there.node.scheduler.answered me ≡ true → pace_by y.run ≡ GoesOn) → Uses p h → Uses q (with_worker h y)
   worker_uses p q h y node live began slot asks u = worker_uses_by p q h y node live (λ k _. ap (has_begun k.attempt) began) slot asks u
 
@@ -219,7 +219,7 @@ module _ (c : ClusterState) (me n : ℕ) (old : Worker) (there : item_at c.worke
       pace_by y.run ≡ pace_by h.worker.run → Uses p h → Uses p (with_worker h y)
   same_uses p h y node live began pace u =
       worker_uses p p h y node live began
-      (λ e. elim (u.used.holders me e) [
+      (λ e. elim (u.used.slot_holders me e) [
         | inl f ↦ inl (as_before f.here.worker (is_me h.worker f.here.worker h.there.opened me refl f.here.there) f.why)
         | inr f ↦ inr (f.1 ∙ ap (λ i. Some i) (sym pace))
       ])
@@ -230,7 +230,7 @@ module _ (c : ClusterState) (me n : ℕ) (old : Worker) (there : item_at c.worke
       as_before x is (inr (inl e)) = inr (inl (e.0, pace ∙ ap (λ (z : Worker). pace_by z.run) is ∙ e.1))
       as_before x is (inr (inr e)) = inr (inr (e.0, e.1, ap (has_begun e.0) (began ∙ ap (λ (z : Worker). z.began) is) ∙ e.2))
 
-  -- a envelope is sent, or entries are logged
+  -- an envelope is sent, or entries are logged
   says_uses : (p : Option Pace) (h : WorkerContext) (to : Endpoint) (m : Message) → Uses p h → Uses p (with_there h (posts h.there (envelope (TheWorker h.me) to m)))
   says_uses p h to m u = record {
     who = u.who;

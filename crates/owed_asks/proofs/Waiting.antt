@@ -41,7 +41,7 @@ module _ (y : Id) where
     answered = λ h o x _ _ w. w;
     resolved = λ h o f w. w;
     freed = λ h o w. w;
-    places_lost = λ h m w. w;
+    locations_lost = λ h m w. w;
     worker_dead = λ h v w. w;
     node_dead = λ h m w. w;
     looked = λ h o number w. w;

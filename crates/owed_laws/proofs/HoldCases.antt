@@ -323,7 +323,7 @@ module _ (s : Setting) (log : List Entry) (c : ClusterState) (step : IsInStep s 
         nobody : ◌≡◌ {A = Option Execution} None (Some r) → ⊥
         nobody f = cc
 
-    -- ---- a envelope that is no Push
+    -- ---- an envelope that is no Push
 
     module _ (i : ℕ) (from : Endpoint) (l : Message) (is_it : e ≡ Deliver i) (sent : item_at c.network i ≡ Some (envelope from (TheWorker me) l)) where
       number_is : (n : ℕ) → e ≡ Deliver n → i ≡ n

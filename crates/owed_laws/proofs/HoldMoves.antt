@@ -149,7 +149,7 @@ module _ (log : List Entry) (net : List Envelope) (acks : List Event) (known : (
   longer : (t : NodeContext) (ls : List Envelope) (run : Execution) → RunHolds log (sent_by t) acks me p run → RunHolds log (net ++ (t.out.envelopes ++ ls)) acks me p run
   longer t ls run r = subst (λ xs. RunHolds log xs acks me p run) (append_assoc net t.out.envelopes ls) (run_more log (sent_by t) ls acks me p run (known_by t) r)
 
-  -- a envelope that is no Hold to a worker
+  -- an envelope that is no Hold to a worker
   posted : (h : WorkerContext) (l : Envelope) → ((v : ℕ) (e o : Id) → envelope (TheWorker me) (TheWorker v) (Hold e o) ≡ l → IsHolder log me a base e × Present) → Holds h →
       Holds (record h { there = record h.there { out = record h.there.out { envelopes = h.there.out.envelopes ++ l ∷ [] } } })
   posted h l now p = record {

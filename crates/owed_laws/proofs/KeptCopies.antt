@@ -43,7 +43,7 @@ use Rattle.protocol_owed.proofs.Envelopes.{among-behind, among-more, among-nothi
 use Rattle.protocol_owed.proofs.Nodes.{there_more}
 use Rattle.owed_asks.specs.of_lease_discipline.Slots.{AreRight}
 use Rattle.owed_asks.specs.of_lease_discipline.Told.{IsInStep}
-use Rattle.owed_asks.proofs.of_lease_discipline.Told.{events_stay_in_step, nowhere, opening_is_in_step, places}
+use Rattle.owed_asks.proofs.of_lease_discipline.Told.{events_stay_in_step, nowhere, opening_is_in_step, locations}
 use Rattle.owed_asks.proofs.Laws.{happens_network}
 use Rattle.owed_replies.specs.Kept.{came_by}
 use Rattle.owed_replies.proofs.Advancing.{among_flat, flat_among}
@@ -164,7 +164,7 @@ module _ (s : Setting) (log : List Entry) (c : ClusterState) (b : Between s log 
     where
       by_worker : (x : Option Worker) → worker_at c w ≡ x → n < length c.nodes + 1
       by_worker None at = let f : ◌≡◌ {A = Option ℕ} None (Some n) = sym (nowhere c.workers w at) ∙ ap (λ ns. from_one ns w) (sym b.knows.opened) ∙ e in absurd (cc)
-      by_worker (Some x) at = let same : x.node ≡ n = same_place x.node n (sym (places s log c b w x at) ∙ e) in
+      by_worker (Some x) at = let same : x.node ≡ n = same_place x.node n (sym (locations s log c b w x at) ∙ e) in
           subst (λ i. i < length c.nodes + 1) same (b.knows.rooms w x at)
 
   made_there : (o : Id) (number n : ℕ) → IsMadeAt log o number n → n < length c.nodes + 1

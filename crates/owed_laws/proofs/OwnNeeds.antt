@@ -9,14 +9,14 @@ use Rattle.meaning.specs.Values.{Id, Outcome}
 use Rattle.event_log.specs.Entries.{OwnerDied}
 use Rattle.protocol.specs.Commits.{asks_where, rests_if_waiting}
 use Rattle.protocol.specs.Messages.{Fetch, TheNode, TheWorker, Where, envelope}
-use Rattle.protocol.specs.Places.{looks_elsewhere, looks_elsewhere_by, looks_for, looks_for_by, looks_here_by, needs_at, needs_by, needs_own, needs_released}
+use Rattle.protocol.specs.Locations.{looks_elsewhere, looks_elsewhere_by, looks_for, looks_for_by, looks_here_by, needs_at, needs_by, needs_own, needs_released}
 use Rattle.protocol.specs.Recovery.{recovers}
 use Rattle.protocol.specs.Releases.{release_step}
 use Rattle.protocol.specs.Runs.{faults, gives_slot_back, with_answer}
 use Rattle.protocol.specs.Sets.{fault, has, is_empty, without_number}
 use Rattle.protocol.specs.Stores.{copy_in}
 use Rattle.protocol.specs.Steps.{WorkerContext, changes, is_own, object_at, says, store_here, with_phase}
-use Rattle.protocol.specs.Tables.{Object, Ready, Execution, Waits, has_content, is_lost, is_waiting_for, knows_dead, settled_number, without_place}
+use Rattle.protocol.specs.Tables.{Object, Ready, Execution, Waits, has_content, is_lost, is_waiting_for, knows_dead, settled_number, without_location}
 use Rattle.protocol_owed.proofs.Envelopes.{among-last}
 use Rattle.protocol_owed.proofs.Moves.{rests_if_waiting-kept}
 use Rattle.protocol_owed.proofs.Replying.{Sent, sent_after, sent_stays}
@@ -35,12 +35,12 @@ abbrev pub IsServed : ℕ → Id → WorkerContext → Type 0
 IsServed me y g = GoesOnHere g ⊎ Fetches me y g
 
 -- where a place is listed, none of which is known dead, it fetches
-elsewhere : (g : WorkerContext) (run : Execution) (y : Id) (x : Object) → g.worker.dead_nodes ≡ [] → is_empty x.places ≡ false →
+elsewhere : (g : WorkerContext) (run : Execution) (y : Id) (x : Object) → g.worker.dead_nodes ≡ [] → is_empty x.locations ≡ false →
     Fetches g.me y (looks_elsewhere (with_phase g run (Waits y None)) y x)
 elsewhere g run y x no_dead some =
     let h : WorkerContext = with_phase g run (Waits y None) in
-    let first = found x.places some in
-    subst (λ o. Fetches g.me y (looks_elsewhere_by h y x o)) (sym (ap (λ ds. find (λ i. not (has ds i)) x.places) no_dead ∙ first.1))
+    let first = found x.locations some in
+    subst (λ o. Fetches g.me y (looks_elsewhere_by h y x o)) (sym (ap (λ ds. find (λ i. not (has ds i)) x.locations) no_dead ∙ first.1))
     (first.0, settled_number x, among-last g.there.out.envelopes (envelope (TheWorker g.me) (TheNode first.0) (Fetch y (settled_number x))))
   where
     found : (ns : List ℕ) → is_empty ns ≡ false → (m : ℕ) × (find (λ i. not (has [] i)) ns ≡ Some m)
@@ -48,7 +48,7 @@ elsewhere g run y x no_dead some =
     found (m ∷ ns) e = (m, refl)
 
 module _ (g : WorkerContext) (run : Execution) (y : Id) (z : Object) (number n : ℕ) (item : object_at g y ≡ Some z) (unfaulted : z.fault ≡ None) (whole : has_content z ≡ true)
-    (number_is : settled_number z ≡ number) (place : z.kept ≡ None → has z.places n ≡ true) (no_dead : g.worker.dead_nodes ≡ [])
+    (number_is : settled_number z ≡ number) (place : z.kept ≡ None → has z.locations n ≡ true) (no_dead : g.worker.dead_nodes ≡ [])
     (stored : z.kept ≡ None → n ≡ g.worker.node → (d : Outcome) × (copy_in (store_here g) y number ≡ Some d)) where
   abbrev h : WorkerContext
   h = with_phase g run (Waits y None)
@@ -82,7 +82,7 @@ module _ (g : WorkerContext) (run : Execution) (y : Id) (z : Object) (number n :
       by_kept None e =
           let q = stored e here_too in
           subst (λ t. GoesOnHere (if t then looks_here_by h y z (copy_in (store_here g) y (settled_number z)) else looks_elsewhere h y z))
-          (sym (subst (λ m. has z.places m ≡ true) here_too (place e)))
+          (sym (subst (λ m. has z.locations m ≡ true) here_too (place e)))
           (subst (λ o. GoesOnHere (looks_here_by h y z o)) (sym (is_stored q.0 q.1)) (copied q.0))
 
   -- some node has one
@@ -98,15 +98,15 @@ module _ (g : WorkerContext) (run : Execution) (y : Id) (z : Object) (number n :
 
       by_copy : z.kept ≡ None → (o : Option Outcome) → copy_in (store_here g) y (settled_number z) ≡ o → IsServed g.me y (looks_here_by h y z o)
       by_copy k (Some d) e = inl (copied d)
-      by_copy k None e = inr (elsewhere (changes g y (without_place g.worker.node)) run y (without_place g.worker.node z) no_dead
-          (some_place (without_number z.places g.worker.node) (has_without z.places g.worker.node n (apart k e (n == g.worker.node) refl) (place k))))
+      by_copy k None e = inr (elsewhere (changes g y (without_location g.worker.node)) run y (without_location g.worker.node z) no_dead
+          (some_place (without_number z.locations g.worker.node) (has_without z.locations g.worker.node n (apart k e (n == g.worker.node) refl) (place k))))
 
       by_kept : (k : Option Outcome) → z.kept ≡ k → IsServed g.me y (looks_for_by h y z k)
       by_kept (Some d) e = inl (kept_here d)
       by_kept None e =
-          at_test (λ t. IsServed g.me y (if t then looks_here_by h y z (copy_in (store_here g) y (settled_number z)) else looks_elsewhere h y z)) (has z.places g.worker.node)
+          at_test (λ t. IsServed g.me y (if t then looks_here_by h y z (copy_in (store_here g) y (settled_number z)) else looks_elsewhere h y z)) (has z.locations g.worker.node)
           (λ _. by_copy e (copy_in (store_here g) y (settled_number z)) refl)
-          (λ _. inr (elsewhere g run y z no_dead (some_place z.places (place e))))
+          (λ _. inr (elsewhere g run y z no_dead (some_place z.locations (place e))))
 
 -- ---- to the end of the event
 

@@ -56,7 +56,7 @@ use Rattle.protocol_owed.specs.Seen.{IsCalm, IsKnownAt, is_failure}
 use Rattle.protocol_owed.proofs.Envelopes.{among-more}
 use Rattle.protocol_owed.proofs.Nodes.{there_more}
 use Rattle.owed_asks.proofs.of_lease_discipline.Heres.{changed_now}
-use Rattle.owed_asks.proofs.of_lease_discipline.Told.{places}
+use Rattle.owed_asks.proofs.of_lease_discipline.Told.{locations}
 use Rattle.owed_replies.proofs.Advancing.{owner_has}
 use Rattle.owed_replies.proofs.Known.{need_known}
 use Rattle.owed_laws.proofs.OwnNeeds.{GoesOnHere, IsServed, answers_here, fetches_then, goes_on_then, own_where, serves}
@@ -288,7 +288,7 @@ module _ (s : Setting) (apart : KeepsMainApart s.script) (log : List Entry) (c :
       -- a put is on its owner's node
       pub put_answered : (v : Value) → birth_at (births log_mid) y ≡ Some (Put v) → GoesOnHere (release_step (commit_step start d))
       put_answered v born =
-          let place : node_of y.owner log_mid ≡ Some mid.worker.node = ap (λ w. node_of w log_mid) own ∙ places s log_mid after_mid between g.worker mid.worker there_mid in
+          let place : node_of y.owner log_mid ≡ Some mid.worker.node = ap (λ w. node_of w log_mid) own ∙ locations s log_mid after_mid between g.worker mid.worker there_mid in
           own_answered 0 mid.worker.node (inl (record { value = v; put = born; first = refl; place = place }))
           (inl (record { value = v; born = born; part = put_part v born; first = refl; home = place })) refl
         where

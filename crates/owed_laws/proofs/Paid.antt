@@ -25,7 +25,7 @@ use Rattle.protocol_owed.proofs.Fetches.{law_of_fetches}
 use Rattle.owed_asks.specs.of_lease_discipline.Slots.{AreRight}
 use Rattle.owed_asks.specs.of_lease_discipline.Told.{entries_of}
 use Rattle.owed_asks.proofs.of_lease_discipline.Events.{among_at}
-use Rattle.owed_asks.proofs.of_lease_discipline.Told.{claims_are_answered, places}
+use Rattle.owed_asks.proofs.of_lease_discipline.Told.{claims_are_answered, locations}
 use Rattle.owed_asks.specs.Law.{happening}
 use Rattle.owed_asks.proofs.Laws.{all_right, births_are_asked, calm_so_far, elsewheres_are_asked, gives_are_begun, last_log, last_whole, one_more, RunKeeps}
 use Rattle.owed_asks.proofs.Laws.{runs_keep}
@@ -147,7 +147,7 @@ module _ (s : Setting) (slots : ℕ) (some : 0 < s.nodes) (slot : 1 ≤ slots) (
             let l : Envelope = envelope (TheNode i) (TheWorker w) (Missing y number m) in
             let x = (senders_are_there s.nodes slots gs l (among_at r.whole.network brings.0 l brings.2)).lacking i w y number m refl in
             (made calm brings.0 brings.1).handed_on i w x.0.node number m y foreign
-            (record { brought = brings.2; place = places s r.log r.whole keeps.step.sound.between w x.0 x.1 });
+            (record { brought = brings.2; place = locations s r.log r.whole keeps.step.sound.between w x.0 x.1 });
         acknowledged = λ v w a n brings place. (made calm brings.0 brings.1).back v w n a (record { brought = brings.2; place = place });
         replies = replies calm;
         ends = ends_after calm;
@@ -172,7 +172,7 @@ all_replies h met reach p = record {
   requests = p.replies.requests;
   accepted = p.replies.accepted;
   owner = p.replies.owner;
-  places = p.replies.places;
+  locations = p.replies.locations;
   copies = p.copies;
   missing = p.missing;
   fetches = λ n w y number brings. met n w number y brings (reach n w number y brings);

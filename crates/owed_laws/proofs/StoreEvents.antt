@@ -38,7 +38,7 @@ use Rattle.protocol_owed.proofs.CourseRuns.{OutOf, out_of}
 use Rattle.protocol_owed.proofs.Envelopes.{among-nothing}
 use Rattle.protocol_owed.proofs.Nodes.{changed_cases, push_cases}
 use Rattle.owed_asks.specs.of_lease_discipline.Told.{IsInStep}
-use Rattle.owed_asks.proofs.of_lease_discipline.Told.{places}
+use Rattle.owed_asks.proofs.of_lease_discipline.Told.{locations}
 use Rattle.owed_laws.proofs.CommitCopies as C
 use Rattle.owed_laws.proofs.CommitCopies.{IsStored, stored_stays}
 use Rattle.owed_laws.proofs.Made.{runs_more}
@@ -200,7 +200,7 @@ makes_none c later e m nodes none = record {
 -- ---- deliveries
 
 module _ (c : ClusterState) (i : ℕ) (l : Envelope) (sent : item_at c.network i ≡ Some l) where
-  -- a envelope that reaches a node
+  -- an envelope that reaches a node
   module _ (n : ℕ) (to : l.receiver ≡ TheNode n) (d : ClusterState) (node : Node) where
     abbrev t : NodeContext
     t = there d n node
@@ -317,7 +317,7 @@ module _ (s : Setting) (log : List Entry) (c : ClusterState) (b : Between s log 
   ]
 
   placed : node_of me log_after ≡ Some x.node
-  placed = node_of-more log (In (Commit j) seat ∷ after_commit.there.out.entries) me x.node (places s log c b me x at)
+  placed = node_of-more log (In (Commit j) seat ∷ after_commit.there.out.entries) me x.node (locations s log c b me x at)
 
   commit_nodes : NodesKeep c (Commit j) committed_so.whole.nodes
   commit_nodes = node_changed c (Commit j) base refl x.node node home after_commit.there (λ o number p. inl (left_there.copies o number p))

@@ -85,7 +85,7 @@ fetch_scene s log has =
       slots = 1;
       log = log;
       network = envelope (TheWorker 2) (TheNode 1) (Fetch (object_id 1 1) 0) ∷ [];
-      holders = λ n. [];
+      slot_holders = λ n. [];
       keeps = λ n o number. has;
     }
 
@@ -118,7 +118,7 @@ request_scene s =
       slots = 1;
       log = put_log;
       network = envelope (TheWorker 2) (TheWorker 1) (Where (object_id 1 1)) ∷ [];
-      holders = λ n. [];
+      slot_holders = λ n. [];
       keeps = λ n o number. true;
     }
 
@@ -147,7 +147,7 @@ report_scene s envelopes =
       slots = 1;
       log = given_log ++ Begun first_one 2 ∷ Ended first_one (Val empty_list ∷ []) ∷ [];
       network = envelope (TheWorker 1) (TheWorker 2) (Push first_one one_once) ∷ envelopes;
-      holders = λ n. [];
+      slot_holders = λ n. [];
       keeps = λ n o number. false;
     }
 

@@ -342,7 +342,7 @@ module _ (s : Setting) (log : List Entry) (c : ClusterState) (e : Event) (seat :
       only (zero, g) = cc
       only (suc n, g) = absurd (cc)
 
-  -- an event that brings a envelope is its delivery
+  -- an event that brings an envelope is its delivery
   brings : (f : Event) (l : Envelope) (net : List Envelope) → Among l (delivered_in net f) → (i : ℕ) × (f ≡ Deliver i)
   brings (Deliver i) l net j = (i, refl)
   brings (Claim w) l net j = absurd (among-nothing l j)

@@ -11,15 +11,15 @@ use Rattle.meaning.specs.Values.{Id, Outcome}
 use Rattle.event_log.specs.Entries.{Got}
 use Rattle.protocol_owed.proofs.Nodes.{changed_cases, there_still}
 use Rattle.protocol.specs.Numbered.{changed_at, item_at}
-use Rattle.protocol.specs.Places.{answers_settled, answers_settled_by, looks_at_places, looks_elsewhere_by, looks_for, looks_for_by, looks_here_by, needs_at}
-use Rattle.protocol.specs.Places.{needs_by, needs_own, needs_own_if_waiting, needs_released, tells_places}
+use Rattle.protocol.specs.Locations.{answers_settled, answers_settled_by, looks_at_locations, looks_elsewhere_by, looks_for, looks_for_by, looks_here_by, needs_at}
+use Rattle.protocol.specs.Locations.{needs_by, needs_own, needs_own_if_waiting, needs_released, tells_locations}
 use Rattle.protocol.specs.Recovery.{recovers}
 use Rattle.protocol.specs.Runs.{fetches, gets, with_answer, with_fetching, with_fetching_at, with_fetching_by}
 use Rattle.protocol.specs.Sets.{has, is_empty}
 use Rattle.protocol.specs.Steps.{WorkerContext, changes, each_from, logs, object_at, own_id, own_object, says, store_here, with_phase, with_run, with_store}
 use Rattle.protocol.specs.Stores.{Copy, Store, brought_to_front, copy_in, is_copy_of, looked_up}
-use Rattle.protocol.specs.Tables.{has_content, HasEnded, HasFaulted, is_lost, is_nowhere, is_same_id, is_waiting_for, live_place, needed_by, Object}
-use Rattle.protocol.specs.Tables.{object_needed, Out, Phase, places_for, Ready, Execution, settled_number, Waits, without_askers, Worker}
+use Rattle.protocol.specs.Tables.{has_content, HasEnded, HasFaulted, is_lost, is_nowhere, is_same_id, is_waiting_for, live_location, needed_by, Object}
+use Rattle.protocol.specs.Tables.{object_needed, Out, Phase, locations_for, Ready, Execution, settled_number, Waits, without_askers, Worker}
 use Rattle.smallest_steps.proofs.Known.{changed_here, own_here, somewhere}
 use Rattle.smallest_steps.proofs.Over.{each_from-kept}
 use Rattle.smallest_steps.proofs.SlotMoves as S
@@ -28,18 +28,18 @@ use Rattle.smallest_steps.proofs.SlotMoves as S
 
 -- what is found is answered, else fetched
 module _ (R : WorkerContext → Type 0) (g : WorkerContext) (y : Id) (z : Object) (run : Execution) (number n : ℕ) (at : g.worker.run ≡ Some run) (item : object_at g y ≡ Some z)
-    (unfaulted : z.fault ≡ None) (whole : has_content z ≡ true) (number_is : settled_number z ≡ number) (place : z.kept ≡ None → z.places ≡ n ∷ [])
+    (unfaulted : z.fault ≡ None) (whole : has_content z ≡ true) (number_is : settled_number z ≡ number) (place : z.kept ≡ None → z.locations ≡ n ∷ [])
     (no_dead : g.worker.dead_nodes ≡ []) (stored : z.kept ≡ None → n ≡ g.worker.node → (d : Outcome) × (copy_in (store_here g) y number ≡ Some d))
     (keeps : (f : Id) → f ≡ y → (d : Outcome) → R (gets (with_phase g run (Waits f None)) d))
     (finds : (f : Id) → f ≡ y → (d : Outcome) → R (gets (with_store (with_phase g run (Waits f None)) (looked_up (store_here g) y (settled_number z))) d))
     (asks : (f : Id) → f ≡ y → (m : ℕ) → R (fetches (with_phase g run (Waits f None)) y (settled_number z) m)) where
-  looks_at : z.kept ≡ None → (f : Id) → f ≡ y → R (looks_at_places (with_phase g run (Waits f None)) y z)
+  looks_at : z.kept ≡ None → (f : Id) → f ≡ y → R (looks_at_locations (with_phase g run (Waits f None)) y z)
   looks_at none f is =
       let h : WorkerContext = with_phase g run (Waits f None) in
-      subst (λ ns. R (if has ns g.worker.node then looks_here_by h y z (copy_in (store_here g) y (settled_number z)) else looks_elsewhere_by h y z (live_place h.worker ns)))
+      subst (λ ns. R (if has ns g.worker.node then looks_here_by h y z (copy_in (store_here g) y (settled_number z)) else looks_elsewhere_by h y z (live_location h.worker ns)))
       (sym (place none))
       (at_test (λ t. has (n ∷ []) g.worker.node ≡ t →
-      R (if t then looks_here_by h y z (copy_in (store_here g) y (settled_number z)) else looks_elsewhere_by h y z (live_place h.worker (n ∷ []))))
+      R (if t then looks_here_by h y z (copy_in (store_here g) y (settled_number z)) else looks_elsewhere_by h y z (live_location h.worker (n ∷ []))))
       (has (n ∷ []) g.worker.node)
       (λ _ here_too. looks_here f is (stored none (eqb-true n g.worker.node (only (n == g.worker.node) here_too))))
       (λ _ _. subst (λ ms. R (looks_elsewhere_by h y z (find (λ i. not (has ms i)) (n ∷ [])))) (sym no_dead) (asks f is n)) refl)
@@ -128,17 +128,17 @@ finds_same h run f o number d = record {
 fetches_same : (h : WorkerContext) (run : Execution) (f : Id) (o : Id) (number m : ℕ) → IsSame h (fetches (with_phase h run (Waits f None)) o number m)
 fetches_same h run f o number m = record { me = refl; node = refl; dead = refl; objects = refl; primaries = refl }
 
--- ---- telling places leaves the worker and its node
+-- ---- telling locations leaves the worker and its node
 
-pub tells-worker : (h : WorkerContext) (ws : List ℕ) (o : Id) (x : Object) → (tells_places h ws o x).worker ≡ h.worker
+pub tells-worker : (h : WorkerContext) (ws : List ℕ) (o : Id) (x : Object) → (tells_locations h ws o x).worker ≡ h.worker
 tells-worker h [] o x = refl
 tells-worker h (w ∷ ws) o x = tells-worker (says h w _) ws o x
 
-pub tells-me : (h : WorkerContext) (ws : List ℕ) (o : Id) (x : Object) → (tells_places h ws o x).me ≡ h.me
+pub tells-me : (h : WorkerContext) (ws : List ℕ) (o : Id) (x : Object) → (tells_locations h ws o x).me ≡ h.me
 tells-me h [] o x = refl
 tells-me h (w ∷ ws) o x = tells-me (says h w _) ws o x
 
-pub tells-node : (h : WorkerContext) (ws : List ℕ) (o : Id) (x : Object) → (tells_places h ws o x).there.node ≡ h.there.node
+pub tells-node : (h : WorkerContext) (ws : List ℕ) (o : Id) (x : Object) → (tells_locations h ws o x).there.node ≡ h.there.node
 tells-node h [] o x = refl
 tells-node h (w ∷ ws) o x = tells-node (says h w _) ws o x
 
@@ -162,7 +162,7 @@ pub record IsThere (g : WorkerContext) (number n k : ℕ) (z : Object) : Type 0 
   pub kept : z.is_released ≡ false
   pub settled : z.settled ≡ Some number
   pub content : Option Outcome
-  pub places : z.places ≡ places_for n content
+  pub locations : z.locations ≡ locations_for n content
   pub keeps : z.kept ≡ content
   pub stored : content ≡ None → n ≡ g.worker.node → list_any (is_copy_of (own_id g k) number) (store_here g).primaries ≡ true
 
@@ -171,8 +171,8 @@ there_whole g number n k z t =
     ap (λ o. is_some o && is_none z.fault && not z.is_released && not (is_nowhere z)) t.settled ∙
     ap (λ o. true && is_none o && not z.is_released && not (is_nowhere z)) t.unfaulted ∙
     ap (λ b. true && true && not b && not (is_nowhere z)) t.kept ∙
-    ap (λ ns. true && true && true && not (is_empty ns && is_none z.kept)) t.places ∙
-    ap (λ o. true && true && true && not (is_empty (places_for n t.content) && is_none o)) t.keeps ∙
+    ap (λ ns. true && true && true && not (is_empty ns && is_none z.kept)) t.locations ∙
+    ap (λ o. true && true && true && not (is_empty (locations_for n t.content) && is_none o)) t.keeps ∙
     ap (λ b. true && true && true && not b) (somewhere n t.content)
 
 -- what an answer to object k leaves
@@ -203,7 +203,7 @@ module _ (h : WorkerContext) (number n k : ℕ) (z : Object) (at : own_object h 
   cleared = changes h o without_askers
 
   abbrev told : WorkerContext
-  told = tells_places cleared z.askers o z
+  told = tells_locations cleared z.askers o z
 
   same : told.worker ≡ cleared.worker
   same = tells-worker cleared z.askers o z
@@ -222,8 +222,8 @@ module _ (h : WorkerContext) (number n k : ℕ) (z : Object) (at : own_object h 
   pub whole_still : has_content (without_askers z) ≡ true
   whole_still = there_whole h number n k z there
 
-  pub place_is : z.kept ≡ None → z.places ≡ n ∷ []
-  place_is none = there.places ∙ ap (places_for n) (sym there.keeps ∙ none)
+  pub place_is : z.kept ≡ None → z.locations ≡ n ∷ []
+  place_is none = there.locations ∙ ap (locations_for n) (sym there.keeps ∙ none)
 
   pub stored_there : z.kept ≡ None → n ≡ told.worker.node → (d : Outcome) × (copy_in (store_here told) o number ≡ Some d)
   stored_there none home =
@@ -285,7 +285,7 @@ there_after h g number n k i z l t = record {
   kept = t.kept;
   settled = t.settled;
   content = t.content;
-  places = t.places;
+  locations = t.locations;
   keeps = t.keeps;
   stored = λ none home.
       ap (λ m. list_any (is_copy_of (record { owner = m; serial = i }) number) (store_here g).primaries) l.me ∙

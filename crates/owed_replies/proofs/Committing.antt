@@ -25,7 +25,7 @@ use Rattle.protocol.specs.Steps.{WorkerContext, changes, each_from, is_own, logs
 use Rattle.protocol.specs.Steps.{with_task_of, with_worker}
 use Rattle.protocol.specs.Runs.{begins_run, faults, gives_slot_back, is_free, push_reached}
 use Rattle.protocol.specs.Asking.{asks_at, rests}
-use Rattle.protocol.specs.Places.{needs_own}
+use Rattle.protocol.specs.Locations.{needs_own}
 use Rattle.protocol.specs.Holders.{adds_holder, awaits_hold_by, holding, holds_id, holds_ids, same_holding, sends_hold, unhold_reached, with_holding}
 use Rattle.protocol.specs.Commits.{bears, bears_all, claim_by, claim_step, commit_by, commit_step, ends, needs}
 use Rattle.protocol.specs.Commits.{each_holds, keeps_content, keeps_contents, next_id_here, rests_if_waiting, stops, stops_by, task_objects, with_objects, with_outcomes}
@@ -64,7 +64,7 @@ each-run r f each h k (suc n) p = each-run r f each (f h k) (k + 1) n (each h k 
 
 lets_all_go-run : (r : Option Execution) (h : WorkerContext) (e : Id) (x : Option Object) → IsAs r h → IsAs r (lets_all_go h e x)
 lets_all_go-run r h e None p = p
-lets_all_go-run r h e (Some x) p = drops_copies-run r (lets_go h e x.ids) e x.ever (lets_go-run r h e x.ids p)
+lets_all_go-run r h e (Some x) p = drops_copies-run r (lets_go h e x.ids) e x.all_locations (lets_go-run r h e x.ids p)
 
 releases_all-run : (r : Option Execution) (h : WorkerContext) (k n : ℕ) → IsAs r h → IsAs r (releases_all h k n)
 releases_all-run r h k n p =

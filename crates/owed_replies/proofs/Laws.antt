@@ -21,7 +21,7 @@ use Rattle.owed_replies.proofs.Happens.{event_advances}
 use Rattle.owed_replies.proofs.Replies.{accepted_owed, finish_owed}
 use Rattle.owed_replies.proofs.Requests.{request_owed}
 use Rattle.owed_replies.proofs.Using.{used_owed}
-use Rattle.owed_replies.proofs.Waiting.{hold_owed, places_owed}
+use Rattle.owed_replies.proofs.Waiting.{hold_owed, locations_owed}
 use Rattle.owed_replies.proofs.Runs.{RunReplies, event_run, run_replies}
 
 -- an event that was taken wasn't refused, and is what happens
@@ -76,7 +76,7 @@ module _ (s : Setting) (r : Running) (k : RunReplies s r) (calm : IsCalm r.log) 
   pub is_paid : IsPaid (happening s r e seat step)
   is_paid = record {
     requests = request_owed s r k calm e seat handed step answered known;
-    places = places_owed s r k calm e seat handed step answered;
+    locations = locations_owed s r k calm e seat handed step answered;
     holds = hold_owed s r k calm e seat handed step answered;
     finishes = finish_owed s r k calm e seat handed step answered;
     accepted = accepted_owed s r k calm e seat handed step answered brought step_after known;

@@ -10,12 +10,12 @@ use Rattle.protocol.specs.Messages.{EndedResult}
 use Rattle.protocol.specs.Messages.{Message, Endpoint, TheWorker, TheNode, Push, Finished, Where, At, Missing, Hold}
 use Rattle.protocol.specs.Stores.{Store}
 use Rattle.protocol.specs.Sets.{is_empty}
-use Rattle.protocol.specs.Tables.{AskedAt, Fetching, HasEnded, HasFaulted, Holding, Object, Out, Phase, Ready, Execution, Waits, is_nowhere, without_place}
+use Rattle.protocol.specs.Tables.{AskedAt, Fetching, HasEnded, HasFaulted, Holding, Object, Out, Phase, Ready, Execution, Waits, is_nowhere, without_location}
 use Rattle.protocol.specs.Steps.{WorkerContext, is_own, logs_all, logs, object_at, says, says_to_node, with_phase, with_run, with_store, with_worker}
 use Rattle.protocol.specs.Runs.{asks_for_slot, gives_slot_back, leaves_if_free, push_reached, tells_stop, with_answer}
 use Rattle.protocol.specs.Asking.{rests, with_begun}
 use Rattle.protocol.specs.Recovery.{recovers}
-use Rattle.protocol.specs.Places.{answers_settled, needs_own}
+use Rattle.protocol.specs.Locations.{answers_settled, needs_own}
 use Rattle.protocol.specs.Holders.{hold_ack_reached, holding}
 use Rattle.protocol.specs.Commits.{needs, rests_if_waiting}
 use Rattle.protocol.specs.Ends.{finished_reached}
@@ -110,7 +110,7 @@ module _ {AnyHold AnyPush : Type 0} (P : WorkerContext → Type 0) (kept : IsKep
     answered = λ h o x at a p. kept.objects h _ (answered_grows h o (λ y e. answered_there h o x y a at e)) p;
     resolved = λ h o f p. kept.writes _ _ refl (kept.objects h _ (fault_grows h o f) p);
     freed = λ h o p. kept.writes h _ refl p;
-    places_lost = λ h m p. kept.objects h _ (mapped_grows h.worker.objects (without_place m) (λ y. succeeds_alike y (without_place m y) refl refl refl)) p;
+    locations_lost = λ h m p. kept.objects h _ (mapped_grows h.worker.objects (without_location m) (λ y. succeeds_alike y (without_location m y) refl refl refl)) p;
     worker_dead = λ h v p. kept.deaths h _ _ p;
     node_dead = λ h m p. kept.deaths h _ _ p;
     looked = λ h o number p. kept.store h _ p;

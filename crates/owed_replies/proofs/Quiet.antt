@@ -31,7 +31,7 @@ use Rattle.lease_discipline.specs.of_protocol_legal.Made.{IsMadeAt, EndsSmall}
 use Rattle.lease_discipline.specs.of_protocol_legal.Past.{Past, past}
 use Rattle.lease_discipline.specs.of_protocol_legal.Whole.{Between, setting_of}
 use Rattle.protocol_owed.specs.Seen.{AcceptedAt, IsCalm, IsKnownAt, PutAt, is_failure}
-use Rattle.lease_discipline.proofs.Told.{places}
+use Rattle.lease_discipline.proofs.Told.{locations}
 use Rattle.owed_replies.proofs.Advancing.{among_flat, flat_among}
 
 -- ---- nothing breaks
@@ -203,7 +203,7 @@ none_lost_put log calm before after n o parts lost =
 pub no_cause : (log : List Entry) → IsCalm log → (kind : FaultKind) (z : Id) → CauseOf kind log z → ⊥
 no_cause log calm OwnerDied z c = worker_alive log calm z.owner c
 no_cause log calm PutLost z c = none_lost_put log calm c.before c.after c.node z c.parts c.lost
-no_cause log calm RetriesUsed z c = by_places c.places c.all c.broken
+no_cause log calm RetriesUsed z c = by_places c.locations c.all c.broken
   where
     by_places : (ks : List ℕ) → length ks ≡ c.retries + 1 → BreakRising log c.part.born.object 0 0 ks → ⊥
     by_places [] e b = absurd (omega (arith, e))
@@ -292,7 +292,7 @@ pub record HasContentAt (z : Object) (number n : ℕ) : Type 0 where
   pub unfaulted : z.fault ≡ None
   pub whole : has_content z ≡ true
   pub number_is : settled_number z ≡ number
-  pub place : z.kept ≡ None → has z.places n ≡ true
+  pub place : z.kept ≡ None → has z.locations n ≡ true
 
 -- and where the owner doesn't keep it, it isn't small
 abbrev pub IsHad : List Entry → Id → Object → ℕ → ℕ → Type 0
@@ -300,7 +300,7 @@ IsHad log y z number n = HasContentAt z number n × (z.kept ≡ None → EndsSma
 
 module _ (s : Setting) (log : List Entry) (c : ClusterState) (b : Between s log c) (calm : IsCalm log) where
   pub all_live : (w : ℕ) (x : Worker) → worker_at c w ≡ Some x → x.is_live ≡ true
-  all_live w x at = sym (b.knows.lives w x at) ∙ opened_lives log calm w x.node (places s log c b w x at)
+  all_live w x at = sym (b.knows.lives w x at) ∙ opened_lives log calm w x.node (locations s log c b w x at)
 
   pub no_dead_nodes : (w : ℕ) (x : Worker) → worker_at c w ≡ Some x → x.dead_nodes ≡ []
   no_dead_nodes w x at = none_there x.dead_nodes (λ n h. node_alive log calm n ((b.knows.workers w x at (all_live w x at)).dead_nodes n h))
@@ -350,14 +350,14 @@ module _ (s : Setting) (log : List Entry) (c : ClusterState) (b : Between s log 
       let sane : Sane log = legal_logs_are_sane (setting_of s c) log b.legal in
       lone (ends_of a log) (let l = sane.one_end a in omega (arith, l)) cs ds i j
 
-  content_there : (z : Object) (number n : ℕ) → z.settled ≡ Some number → z.fault ≡ None → z.is_released ≡ false → (z.kept ≡ None → has z.places n ≡ true) →
+  content_there : (z : Object) (number n : ℕ) → z.settled ≡ Some number → z.fault ≡ None → z.is_released ≡ false → (z.kept ≡ None → has z.locations n ≡ true) →
       HasContentAt z number n
   content_there z number n settled unfaulted kept place = record {
     settled = settled;
     unfaulted = unfaulted;
     whole = ap (λ o. is_some o && is_none z.fault && not z.is_released && not (is_nowhere z)) settled ∙
         ap (λ o. true && is_none o && not z.is_released && not (is_nowhere z)) unfaulted ∙
-        ap (λ t. true && true && not t && not (is_nowhere z)) kept ∙ ap (λ t. true && true && true && not t) (there_is z.places n z.kept place);
+        ap (λ t. true && true && not t && not (is_nowhere z)) kept ∙ ap (λ t. true && true && true && not t) (there_is z.locations n z.kept place);
     number_is = ap (λ o. unwrap_or o 0) settled;
     place = place;
   }
@@ -476,9 +476,9 @@ module _ (s : Setting) (log : List Entry) (c : ClusterState) (b : Between s log 
 
       put_here : KnowsPut log x.node y z → PutAt log y number n → IsHad log y z number n
       put_here k p =
-          let home : x.node ≡ n = same_node x.node n (sym (places s log c b y.owner x at) ∙ p.place) in
-          let where_is : has z.places n ≡ true = elim (k.placed unfaulted kept) [
-            | inl e ↦ subst (λ m. has z.places m ≡ true) home e
+          let home : x.node ≡ n = same_node x.node n (sym (locations s log c b y.owner x at) ∙ p.place) in
+          let where_is : has z.locations n ≡ true = elim (k.placed unfaulted kept) [
+            | inl e ↦ subst (λ m. has z.locations m ≡ true) home e
             | inr l ↦ absurd (none_lost_put log calm l.before l.after x.node y l.parts l.lost)
           ] in
           (content_there z number n (k.settled ∙ ap (λ m. Some m) (sym p.first)) unfaulted kept (λ _. where_is), λ _ small. not_run small)
@@ -504,8 +504,8 @@ module _ (s : Setting) (log : List Entry) (c : ClusterState) (b : Between s log 
               IsHad log y z number n
           by_place settled placed none_before node first =
               let same : settled.number ≡ number = first ∙ sym none_before in
-              let where_is : z.kept ≡ None → has z.places n ≡ true = λ none. elim (placed.there none) [
-                | inl f ↦ subst (λ i. has z.places i ≡ true) node f
+              let where_is : z.kept ≡ None → has z.locations n ≡ true = λ none. elim (placed.there none) [
+                | inl f ↦ subst (λ i. has z.locations i ≡ true) node f
                 | inr l ↦ absurd (none_lost log calm _ l)
               ] in
               let acc = settled.accepted in (

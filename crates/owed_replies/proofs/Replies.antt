@@ -25,11 +25,11 @@ use Rattle.protocol.specs.Jobs.{CommitInput}
 use Rattle.protocol.specs.Messages.{At, EndedResult, Finished, FinishedAck, Envelope, envelope, TheWorker}
 use Rattle.protocol.specs.Nodes.{Node}
 use Rattle.protocol.specs.Numbered.{changed_at, item_at}
-use Rattle.protocol.specs.Places.{answers_settled, answers_settled_by, tells_places}
+use Rattle.protocol.specs.Locations.{answers_settled, answers_settled_by, tells_locations}
 use Rattle.protocol.specs.Sets.{has, object_id}
 use Rattle.protocol.specs.Releases.{release_step}
 use Rattle.protocol.specs.Steps.{changes, each_result, WorkerContext, object_at, own_id, own_object, store_here, with_task_of}
-use Rattle.protocol.specs.Tables.{AskedAt, AtRest, is_pending_task, is_under_way, Object, OwnTask, places_for, Progress, Execution, RunsOn, task_in}
+use Rattle.protocol.specs.Tables.{AskedAt, AtRest, is_pending_task, is_under_way, Object, OwnTask, locations_for, Progress, Execution, RunsOn, task_in}
 use Rattle.protocol.specs.Tables.{task_of, with_content, with_task, without_askers, Worker}
 use Rattle.protocol.specs.Cluster.{ClusterState, here, node_at, worker_at}
 use Rattle.lease_discipline.specs.of_protocol_legal.Knows.{IsSettled, KnowsProgress, KnowsPut, KnowsTask, once}
@@ -389,7 +389,7 @@ module _ (s : Setting) (r : Running) (k : RunReplies s r) (calm : IsCalm r.log) 
               kept = (rest_row i low).2.kept;
               settled = refl;
               content = t.result.kept;
-              places = refl;
+              locations = refl;
               keeps = refl;
               stored = λ none home.
                   ap (λ m. list_any (is_copy_of (object_id m (a.object.serial + i)) a.number) (store_here accepted_here).primaries) (same_me ∙ own) ∙
@@ -541,13 +541,13 @@ module _ (s : Setting) (r : Running) (k : RunReplies s r) (calm : IsCalm r.log) 
             (λ g me there _ _ _. tells g me there asks) tt q.object q.item made in
             let told : Among l step.envelopes = subst (λ ls. Among l ls) (sym envelopes) (sent_after l (finished_reached h f.sender a f.node f.results) sent) in
             let by_owner =
-            subst (λ v. Among (envelope (TheWorker v) (TheWorker w) (At y number (places_for f.node kept) kept)) step.envelopes) (q.own ∙ row.owner) told in
+            subst (λ v. Among (envelope (TheWorker v) (TheWorker w) (At y number (locations_for f.node kept) kept)) step.envelopes) (q.own ∙ row.owner) told in
             record {
-              nodes = places_for f.node kept;
+              nodes = locations_for f.node kept;
               kept = kept;
               told = by_owner;
-              known = known_then y.owner w number y (places_for f.node kept) kept by_owner;
-              named = λ none. subst (λ d. has (places_for f.node d) n ≡ true) (sym none) (ap (λ t. t || false) (own_now n f.node (sym node_is)));
+              known = known_then y.owner w number y (locations_for f.node kept) kept by_owner;
+              named = λ none. subst (λ d. has (locations_for f.node d) n ≡ true) (sym none) (ap (λ t. t || false) (own_now n f.node (sym node_is)));
             }
           where
             place : ℕ
@@ -572,7 +572,7 @@ module _ (s : Setting) (r : Running) (k : RunReplies s r) (calm : IsCalm r.log) 
             kept = new.kept
 
             l : Envelope
-            l = envelope (TheWorker f.owner) (TheWorker w) (At y number (places_for f.node kept) kept)
+            l = envelope (TheWorker f.owner) (TheWorker w) (At y number (locations_for f.node kept) kept)
 
             row_is : (g : WorkerContext) → g.me ≡ f.owner → own_id g (a.object.serial + place) ≡ y
             row_is g me = ap (λ v. object_id v (a.object.serial + place)) (me ∙ q.own ∙ row.owner) ∙ ap (object_id y.owner) (sym row.serial)
@@ -583,13 +583,13 @@ module _ (s : Setting) (r : Running) (k : RunReplies s r) (calm : IsCalm r.log) 
                 let o : Id = own_id g (a.object.serial + place) in
                 let same : new.askers ≡ old.0.askers =
                 (rest_row f.owner a f.node q.own q.ended q.worker q.there q.lives f.results q.small task present knows unaccepted only q.node q.home lives place row.within).2.askers in
-                let told : Sent (envelope (TheWorker g.me) (TheWorker w) (At o number (places_for f.node kept) kept)) (tells_places (changes g o without_askers) new.askers o new) =
+                let told : Sent (envelope (TheWorker g.me) (TheWorker w) (At o number (locations_for f.node kept) kept)) (tells_locations (changes g o without_askers) new.askers o new) =
                 askers_are_told (changes g o without_askers) new.askers o new w (ap (λ ws. has ws w) same ∙ asks) in
-                let as_l : Sent l (tells_places (changes g o without_askers) new.askers o new) =
-                subst (λ p. Sent (envelope (TheWorker f.owner) (TheWorker w) (At p number (places_for f.node kept) kept)) (tells_places (changes g o without_askers) new.askers o new)) (row_is g me)
-                (subst (λ v. Sent (envelope (TheWorker v) (TheWorker w) (At o number (places_for f.node kept) kept)) (tells_places (changes g o without_askers) new.askers o new)) me told) in
+                let as_l : Sent l (tells_locations (changes g o without_askers) new.askers o new) =
+                subst (λ p. Sent (envelope (TheWorker f.owner) (TheWorker w) (At p number (locations_for f.node kept) kept)) (tells_locations (changes g o without_askers) new.askers o new)) (row_is g me)
+                (subst (λ v. Sent (envelope (TheWorker v) (TheWorker w) (At o number (locations_for f.node kept) kept)) (tells_locations (changes g o without_askers) new.askers o new)) me told) in
                 subst (λ z. Sent l (answers_settled_by g o z)) (sym (own_here g (a.object.serial + place) ∙ there))
-                (M.needs_own_if_waiting-kept (Sent l) (sent_stays l) (tells_places (changes g o without_askers) new.askers o new) o as_l)
+                (M.needs_own_if_waiting-kept (Sent l) (sent_stays l) (tells_locations (changes g o without_askers) new.askers o new) o as_l)
 
             answered_not : worker_at c y.owner ≡ Some q.worker → IsAnswered old.0 → ⊥
             answered_not at_y (inl t) =

@@ -18,11 +18,11 @@ use Rattle.protocol.specs.Jobs.{CommitInput}
 use Rattle.protocol.specs.Messages.{At, Envelope, Missing, TheWorker, Where, envelope}
 use Rattle.protocol.specs.Nodes.{Node}
 use Rattle.protocol.specs.Numbered.{changed_at, item_at}
-use Rattle.protocol.specs.Places.{hands_missing_on, is_present, takes_place, takes_place_by, where_reached}
+use Rattle.protocol.specs.Locations.{hands_missing_on, is_present, takes_location, takes_location_by, where_reached}
 use Rattle.protocol.specs.Releases.{release_step}
 use Rattle.protocol.specs.Sets.{has, without_number}
 use Rattle.protocol.specs.Steps.{WorkerContext, changes, is_own, object_at}
-use Rattle.protocol.specs.Tables.{Object, Worker, is_whole, settled_number, without_place, is_nowhere}
+use Rattle.protocol.specs.Tables.{Object, Worker, is_whole, settled_number, without_location, is_nowhere}
 use Rattle.protocol.specs.Cluster.{ClusterState, here, worker_at}
 use Rattle.lease_discipline.specs.of_protocol_legal.Made.{IsNotAt, EndsSmall}
 use Rattle.lease_discipline.specs.of_protocol_legal.Past.{past}
@@ -64,14 +64,14 @@ module _ (s : Setting) (r : Running) (k : RunReplies s r) (calm : IsCalm r.log) 
   known_born y number n (inr p) = part_born r.log y p.part p.born (accepted_other (setting_of s c) r.log b.legal (attempt p.part.born.object number) p.accepted)
 
   -- another place that is taken out leaves the content
-  pub without_other : (z : Object) (number n j : ℕ) → n ≢ j → HasContentAt z number n → HasContentAt (without_place j z) number n
+  pub without_other : (z : Object) (number n j : ℕ) → n ≢ j → HasContentAt z number n → HasContentAt (without_location j z) number n
   without_other z number n j apart q =
-      let kept : z.kept ≡ None → has (without_number z.places j) n ≡ true = λ none. has-stays z.places j n (λ e. apart (sym e)) (q.place none) in
+      let kept : z.kept ≡ None → has (without_number z.locations j) n ≡ true = λ none. has-stays z.locations j n (λ e. apart (sym e)) (q.place none) in
       record {
         settled = q.settled;
         unfaulted = q.unfaulted;
-        whole = ap (λ t. t && not (is_nowhere (without_place j z))) (and_left (is_whole z) (not (is_nowhere z)) q.whole) ∙
-            ap not (there_is (without_number z.places j) n z.kept kept);
+        whole = ap (λ t. t && not (is_nowhere (without_location j z))) (and_left (is_whole z) (not (is_nowhere z)) q.whole) ∙
+            ap not (there_is (without_number z.locations j) n z.kept kept);
         number_is = q.number_is;
         place = kept;
       }
@@ -98,16 +98,16 @@ module _ (s : Setting) (r : Running) (k : RunReplies s r) (calm : IsCalm r.log) 
     same_number : (m n : ℕ) → (m == n) ≡ true → m ≡ n
     same_number m n f = grind (arith, nat_tests)
 
-    told_so : (y : Id) (w number n : ℕ) (z : Object) → HasContentAt z number n → Among (envelope (TheWorker y.owner) (TheWorker w) (At y (settled_number z) z.places z.kept)) step.envelopes →
+    told_so : (y : Id) (w number n : ℕ) (z : Object) → HasContentAt z number n → Among (envelope (TheWorker y.owner) (TheWorker w) (At y (settled_number z) z.locations z.kept)) step.envelopes →
         Tells then_log step.envelopes y w number n
     told_so y w number n z q told =
-        let sent = subst (λ i. Among (envelope (TheWorker y.owner) (TheWorker w) (At y i z.places z.kept)) step.envelopes) q.number_is told in
+        let sent = subst (λ i. Among (envelope (TheWorker y.owner) (TheWorker w) (At y i z.locations z.kept)) step.envelopes) q.number_is told in
         record {
-          nodes = z.places;
+          nodes = z.locations;
           kept = z.kept;
           told = sent;
           named = q.place;
-          known = known_then y.owner w number y z.places z.kept sent;
+          known = known_then y.owner w number y z.locations z.kept sent;
         }
 
     -- where a copy is missed, the content isn't
@@ -146,8 +146,8 @@ module _ (s : Setting) (r : Running) (k : RunReplies s r) (calm : IsCalm r.log) 
             subst (λ q. IsRightEnvelope r.log (envelope (TheWorker w) (TheWorker y.owner) q)) where_is (k.replies.envelopes l (among_at c.network i l sent)) in
             let item : object_at h y ≡ Some z = ap (λ t. if t then item_at x.objects y.serial else None) (own_now y.owner y.owner refl) ∙ there in
             told_so y w number n z content
-            (subst (λ ls. Among (envelope (TheWorker y.owner) (TheWorker w) (At y (settled_number z) z.places z.kept)) ls) (sym envelopes)
-            (subst (λ q. Sent (envelope (TheWorker y.owner) (TheWorker w) (At y (settled_number z) z.places z.kept)) (release_step (reached h (TheWorker w) q))) (sym where_is)
+            (subst (λ ls. Among (envelope (TheWorker y.owner) (TheWorker w) (At y (settled_number z) z.locations z.kept)) ls) (sym envelopes)
+            (subst (λ q. Sent (envelope (TheWorker y.owner) (TheWorker w) (At y (settled_number z) z.locations z.kept)) (release_step (reached h (TheWorker w) q))) (sym where_is)
             (where_is_told h y w z item content.unfaulted content.whole (other_way w y.owner right.1))))
         by_message x node z at there (content, big) envelopes (inr (number', j, missing_is)) =
             let h : WorkerContext = here c y.owner x node in
@@ -158,24 +158,24 @@ module _ (s : Setting) (r : Running) (k : RunReplies s r) (calm : IsCalm r.log) 
             let own : is_own h y ≡ true = own_now y.owner y.owner refl in
             let item : object_at h y ≡ Some z = ap (λ t. if t then item_at x.objects y.serial else None) own ∙ there in
             let other : (w == y.owner) ≡ false = other_way w y.owner right.1 in
-            let reached_so : step.envelopes ≡ (release_step (where_reached (takes_place_by h y number' j (Some z)) w y)).there.out.envelopes =
+            let reached_so : step.envelopes ≡ (release_step (where_reached (takes_location_by h y number' j (Some z)) w y)).there.out.envelopes =
             envelopes ∙ ap (λ q. (release_step (reached h (TheWorker w) q)).there.out.envelopes) missing_is ∙
-            ap (λ t. (release_step (if t then where_reached (takes_place h y number' j) w y else hands_missing_on h y number' j)).there.out.envelopes) own ∙
-            ap (λ o. (release_step (where_reached (takes_place_by h y number' j o) w y)).there.out.envelopes) item in
-            at_test (λ t. is_present number' z ≡ t → step.envelopes ≡ (release_step (where_reached (if t then changes h y (without_place j) else h) w y)).there.out.envelopes → Tells then_log step.envelopes y w number n)
+            ap (λ t. (release_step (if t then where_reached (takes_location h y number' j) w y else hands_missing_on h y number' j)).there.out.envelopes) own ∙
+            ap (λ o. (release_step (where_reached (takes_location_by h y number' j o) w y)).there.out.envelopes) item in
+            at_test (λ t. is_present number' z ≡ t → step.envelopes ≡ (release_step (where_reached (if t then changes h y (without_location j) else h) w y)).there.out.envelopes → Tells then_log step.envelopes y w number n)
             (is_present number' z)
             (λ _ present so.
             let none : z.kept ≡ None = none_of z.kept (and_right (is_some z.settled && (settled_number z == number') && not z.is_released) (is_none z.kept) present) in
             let same : settled_number z ≡ number' = same_number (settled_number z) number' (and_right (is_some z.settled) (settled_number z == number')
             (and_left (is_some z.settled && (settled_number z == number')) (not z.is_released) (and_left (is_some z.settled && (settled_number z == number') && not z.is_released) (is_none z.kept) present))) in
             let apart : n ≢ j = missed_elsewhere y x z number n j at there known unreleased (big none) (subst (λ q. IsNotAt r.log y q j) (sym same ∙ content.number_is) says) in
-            let left : HasContentAt (without_place j z) number n = without_other z number n j apart content in
-            let g : WorkerContext = changes h y (without_place j) in
-            let now : object_at g y ≡ Some (without_place j z) =
-            ap (λ t. if t then item_at (changed_at x.objects y.serial (without_place j)) y.serial else None) own ∙ changed_here x.objects y.serial (without_place j) z there in
-            told_so y w number n (without_place j z) left
-            (subst (λ ls. Among (envelope (TheWorker y.owner) (TheWorker w) (At y (settled_number (without_place j z)) (without_place j z).places z.kept)) ls) (sym so)
-            (where_is_told g y w (without_place j z) now left.unfaulted left.whole other)))
+            let left : HasContentAt (without_location j z) number n = without_other z number n j apart content in
+            let g : WorkerContext = changes h y (without_location j) in
+            let now : object_at g y ≡ Some (without_location j z) =
+            ap (λ t. if t then item_at (changed_at x.objects y.serial (without_location j)) y.serial else None) own ∙ changed_here x.objects y.serial (without_location j) z there in
+            told_so y w number n (without_location j z) left
+            (subst (λ ls. Among (envelope (TheWorker y.owner) (TheWorker w) (At y (settled_number (without_location j z)) (without_location j z).locations z.kept)) ls) (sym so)
+            (where_is_told g y w (without_location j z) now left.unfaulted left.whole other)))
             (λ _ _ so. told_so y w number n z content
-            (subst (λ ls. Among (envelope (TheWorker y.owner) (TheWorker w) (At y (settled_number z) z.places z.kept)) ls) (sym so)
+            (subst (λ ls. Among (envelope (TheWorker y.owner) (TheWorker w) (At y (settled_number z) z.locations z.kept)) ls) (sym so)
             (where_is_told h y w z item content.unfaulted content.whole other))) refl reached_so

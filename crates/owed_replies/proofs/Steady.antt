@@ -12,10 +12,10 @@ use Rattle.protocol.specs.Messages.{At, TheWorker}
 use Rattle.protocol.specs.Numbered.{changed_at, item_at}
 use Rattle.protocol.specs.Sets.{has, is_empty, with_number}
 use Rattle.protocol.specs.Tables.{HasFaulted, Object, Execution, Worker, has_content, has_stopped, is_lost, is_whole, knows_dead, owner_of, settled_number}
-use Rattle.protocol.specs.Tables.{with_asker, without_place, is_nowhere}
+use Rattle.protocol.specs.Tables.{with_asker, without_location, is_nowhere}
 use Rattle.protocol.specs.Steps.{WorkerContext, changes, is_own, object_at, own_object, says, with_run}
 use Rattle.protocol.specs.Runs.{is_heard, leaves, leaves_by, leaves_if_free, tells}
-use Rattle.protocol.specs.Places.{answers_asker, answers_unsettled, asker_by, hands_missing_on, is_present, lets_wait, missing_reached, takes_place, tells_released, takes_place_by, where_reached}
+use Rattle.protocol.specs.Locations.{answers_asker, answers_unsettled, asker_by, hands_missing_on, is_present, lets_wait, missing_reached, takes_location, tells_released, takes_location_by, where_reached}
 use Rattle.protocol.specs.Recovery.{recovers}
 use Rattle.smallest_steps.proofs.Known.{changed_here}
 use Rattle.owed_replies.specs.Kept.{IsAwaitedBy}
@@ -126,7 +126,7 @@ module _ (h : WorkerContext) (v : ℕ) (o : Id) where
 
   asker_waits : (x : Object) → item_at h.worker.objects o.serial ≡ Some x → Rests x → (f : Option Fault) → x.fault ≡ f → Awaited (answers_asker h o v x f)
   asker_waits x at rests None e =
-      at_test (λ b. has_content x ≡ b → Awaited (if b then says h v (At o (settled_number x) x.places x.kept) else answers_unsettled h o v x)) (has_content x)
+      at_test (λ b. has_content x ≡ b → Awaited (if b then says h v (At o (settled_number x) x.locations x.kept) else answers_unsettled h o v x)) (has_content x)
       (λ _ t. record { object = x; there = at; waits = inr (inl (settled_of x t)) })
       (λ _ _. at_test (λ b. Awaited (if b then tells_released h o v x.dead_holder else lets_wait h o v x)) x.is_released
       (λ r. told_waits x at (rests r e) x.dead_holder) (λ _. lets_it_wait x at)) refl
@@ -143,10 +143,10 @@ pub missing_waits : (h : WorkerContext) (v : ℕ) (o : Id) (number n : ℕ) (x :
     IsAwaited o.serial v (missing_reached h (TheWorker v) o number n).worker.objects
 missing_waits h v o number n x own at rests other =
     let there : object_at h o ≡ Some x = ap (λ b. if b then own_object h o.serial else None) own ∙ at in
-    subst (λ b. IsAwaited o.serial v (if b then where_reached (takes_place h o number n) v o else hands_missing_on h o number n).worker.objects) (sym own)
-    (subst (λ y. IsAwaited o.serial v (where_reached (takes_place_by h o number n y) v o).worker.objects) (sym there)
-    (at_test (λ b. IsAwaited o.serial v (where_reached (if b then changes h o (without_place n) else h) v o).worker.objects) (is_present number x)
-    (λ _. where_waits (changes h o (without_place n)) v o (without_place n x)
-    (ap (λ b. if b then item_at (changed_at h.worker.objects o.serial (without_place n)) o.serial else None) own ∙
-    changed_here h.worker.objects o.serial (without_place n) x at) rests other)
+    subst (λ b. IsAwaited o.serial v (if b then where_reached (takes_location h o number n) v o else hands_missing_on h o number n).worker.objects) (sym own)
+    (subst (λ y. IsAwaited o.serial v (where_reached (takes_location_by h o number n y) v o).worker.objects) (sym there)
+    (at_test (λ b. IsAwaited o.serial v (where_reached (if b then changes h o (without_location n) else h) v o).worker.objects) (is_present number x)
+    (λ _. where_waits (changes h o (without_location n)) v o (without_location n x)
+    (ap (λ b. if b then item_at (changed_at h.worker.objects o.serial (without_location n)) o.serial else None) own ∙
+    changed_here h.worker.objects o.serial (without_location n) x at) rests other)
     (λ _. where_waits h v o x there rests other)))

@@ -14,8 +14,8 @@ use Rattle.protocol.specs.Deliveries.{reached}
 use Rattle.protocol.specs.Ends.{finished_reached}
 use Rattle.protocol.specs.Jobs.{CommitInput}
 use Rattle.protocol.specs.Messages.{Fetch, Finished, envelope, Envelope, TheNode, TheWorker}
-use Rattle.protocol.specs.Places.{answers_settled}
-use Rattle.protocol.specs.Places.{needs_own_if_waiting, tells_places}
+use Rattle.protocol.specs.Locations.{answers_settled}
+use Rattle.protocol.specs.Locations.{needs_own_if_waiting, tells_locations}
 use Rattle.protocol.specs.Releases.{release_step}
 use Rattle.protocol.specs.Sets.{object_id}
 use Rattle.protocol.specs.Stores.{looked_up}
@@ -67,7 +67,7 @@ module _ (s : Setting) (r : Running) (k : RunReplies s r) (calm : IsCalm r.log) 
   answer_serves h number n t z run at there no_dead is needs =
       let o : Id = own_id h t in
       let f : WorkerContext = changes h o without_askers in
-      let told : WorkerContext = tells_places f z.askers o z in
+      let told : WorkerContext = tells_locations f z.askers o z in
       let same : told.worker ≡ f.worker = tells-worker f z.askers o z in
       let me_same : told.me ≡ h.me = tells-me f z.askers o z in
       let now : IsServed run told.me o (needs_own_if_waiting told o) =

@@ -33,7 +33,7 @@ use Rattle.protocol_owed.specs.Seen.{IsCalm}
 use Rattle.protocol_owed.proofs.Replying.{IsAnswered, IsFetched, IsMissed, Uses, at_is_used, hold_is_acknowledged, at_is_got}
 use Rattle.protocol_owed.specs.Told.{IsAsTold, attempt_by, pace_by, pace_in}
 use Rattle.lease_discipline.proofs.Events.{among_at}
-use Rattle.lease_discipline.proofs.Told.{lives_there, logs_tell, places}
+use Rattle.lease_discipline.proofs.Told.{lives_there, logs_tell, locations}
 use Rattle.owed_replies.specs.Kept.{IsRightEnvelope}
 use Rattle.owed_replies.specs.Law.{happening}
 use Rattle.owed_replies.proofs.Advancing.{entry_born, owner_has}
@@ -152,8 +152,8 @@ module _ (s : Setting) (r : Running) (k : RunReplies s r) (calm : IsCalm r.log) 
     foreign_to : (y : Id) (w : ℕ) → y.owner ≢ w → (y.owner == w) ≡ false
     foreign_to y w other = false_from_ne_true (y.owner == w) (λ f. other (eqb-true y.owner w f))
 
-    pub places_owed : AtIsUsed hap
-    places_owed w a y number nodes content other (i, is, sent) waits =
+    pub locations_owed : AtIsUsed hap
+    locations_owed w a y number nodes content other (i, is, sent) waits =
         let q : IsWaiting w a y = waits_so w a y waits in
         let h : WorkerContext = here c w q.worker q.node in
         let l : Envelope = envelope (TheWorker y.owner) (TheWorker w) (At y number nodes content) in
@@ -174,7 +174,7 @@ module _ (s : Setting) (r : Running) (k : RunReplies s r) (calm : IsCalm r.log) 
         by_use q ns entries envelopes (IsMissed named missed) =
             inr (inr (
               q.worker.node,
-              places s r.log c b w q.worker q.there,
+              locations s r.log c b w q.worker q.there,
               named,
               subst (λ ls. Among (envelope (TheWorker w) (TheWorker y.owner) (Missing y number q.worker.node)) ls) (sym envelopes) missed,
             ))

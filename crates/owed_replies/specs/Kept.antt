@@ -21,7 +21,7 @@ use Rattle.protocol_owed.specs.Seen.{Sends, delivered_in}
 abbrev pub IsBornIn : List Entry → Id → Type 0
 IsBornIn log o = (p : Id) × (a : Attempt) × (b : Birth) × Among (Born p a b) log × (is_made_by (record { object = p; birth = b }) o ≡ true)
 
--- what worker v says to worker w: of objects that were born, to their owners, who are others; the end of an attempt to its owner; and of places
+-- what worker v says to worker w: of objects that were born, to their owners, who are others; the end of an attempt to its owner; and of locations
 -- there is one at least, or the content comes along
 abbrev pub IsSaidRight : List Entry → ℕ → ℕ → Message → Type 0
 IsSaidRight log v w (Where y) = (w ≡ y.owner) × ((y.owner == v) ≡ false) × IsBorn (births log) y

@@ -68,7 +68,7 @@ pub record IsPaid (h : Happening) : Type 0 where
   pub requests : RequestIsTold h
   pub accepted : AcceptedIsTold h
   pub owner : AcceptedIsUsed h
-  pub places : AtIsUsed h
+  pub locations : AtIsUsed h
   pub holds : HoldIsAcknowledged h
   pub finishes : FinishIsAcknowledged h
 

@@ -1,4 +1,4 @@
-// Ends are reported, and asks for places, Holds and Finished are answered, in the event that calls for it.
+// Ends are reported, and asks for locations, Holds and Finished are answered, in the event that calls for it.
 
 ghost use Rattle.owed_replies.specs.Law.{EventsKeepReplies, LawOfEnds, LawOfReplies, OpeningKeepsReplies};
 
@@ -18,9 +18,9 @@ pub fn law_of_ends()
     ensures { LawOfEnds }
 {}
 
-/// As long as nothing was killed or lost, in the event that calls for it: whoever asks for what is there, or missed a copy, is told the places; at
+/// As long as nothing was killed or lost, in the event that calls for it: whoever asks for what is there, or missed a copy, is told the locations; at
 /// the acceptance everyone who asked before is told them, and the owner's own attempt, if it waits, gets the content or fetches it; a worker that waits
-/// uses the places that reach it; a Hold and a Finished are acknowledged, and the first Finished is accepted.
+/// uses the locations that reach it; a Hold and a Finished are acknowledged, and the first Finished is accepted.
 pub fn law_of_replies()
     ensures { LawOfReplies }
 {}

@@ -6,7 +6,7 @@ use Rattle.protocol.specs.Messages.{EndedResult}
 use Rattle.protocol.specs.Tables.{OwnTask}
 use Rattle.protocol.specs.Steps.{WorkerContext, each_from, each_result, logs, own_id, with_task_of}
 use Rattle.protocol.specs.Asking.{answers_faulted, resolves_used, rests, uses_up}
-use Rattle.protocol.specs.Places.{answers_settled}
+use Rattle.protocol.specs.Locations.{answers_settled}
 use Rattle.protocol.specs.Ends.{accepts, failed_by, fails, finished_by, hears_of_end, if_present, resolves_open, settles}
 use Rattle.owner_steps.specs.Each.{each_own}
 

@@ -2,7 +2,7 @@
 
 ghost use Rattle.std.specs.Prelude.{◌≡◌, OnOk, [], ◌∷◌, Some, None};
 ghost use Rattle.protocol.specs.Tables.{settled_number};
-ghost use Rattle.protocol.specs.Places.{answers_settled, tells_places};
+ghost use Rattle.protocol.specs.Locations.{answers_settled, tells_locations};
 ghost use Rattle.protocol_data.specs.declared.tables.Object.{Object};
 
 use crate::faulted::clear_askers;
@@ -15,43 +15,43 @@ use std::alloc::{AllocError, Global};
 use worker_steps::{object_at, say};
 
 /// A worker is told where the content is.
-fn tell_place(
+fn tell_location(
     alloc: Global,
     here: &mut WorkerContext,
     worker: WorkerId,
     object: ObjectId,
     number: u32,
-    places: &Seq<NodeId>,
+    locations: &Seq<NodeId>,
     kept: &Option<SharedContent>,
 ) -> Result<(), AllocError>
-    ensures { (x : Object) → settled_number x ≡ number → x.places ≡ places.now → x.kept ≡ kept.now
-        → OnOk result (here.new ≡ tells_places here.old (worker ∷ []) object x) }
+    ensures { (x : Object) → settled_number x ≡ number → x.locations ≡ locations.now → x.kept ≡ kept.now
+        → OnOk result (here.new ≡ tells_locations here.old (worker ∷ []) object x) }
 {
-    let places = places.copy(alloc)?;
+    let locations = locations.copy(alloc)?;
     let kept = copy_of(kept, alloc)?;
-    say(here, worker, Message::At(object, number, places, kept))
+    say(here, worker, Message::At(object, number, locations, kept))
 }
 
 /// Each of the workers is told where the content is.
-fn tell_places(
+fn tell_locations(
     alloc: Global,
     here: &mut WorkerContext,
     workers: &Seq<WorkerId>,
     object: ObjectId,
     number: u32,
-    places: &Seq<NodeId>,
+    locations: &Seq<NodeId>,
     kept: &Option<SharedContent>,
 ) -> Result<(), AllocError>
-    ensures { (x : Object) → settled_number x ≡ number → x.places ≡ places.now → x.kept ≡ kept.now
-        → OnOk result (here.new ≡ tells_places here.old workers.now object x) }
+    ensures { (x : Object) → settled_number x ≡ number → x.locations ≡ locations.now → x.kept ≡ kept.now
+        → OnOk result (here.new ≡ tells_locations here.old workers.now object x) }
 {
     for worker in &workers.items {
-        tell_place(alloc, here, *worker, object, number, places, kept)?;
+        tell_location(alloc, here, *worker, object, number, locations, kept)?;
     }
     Ok(())
 }
 
-/// Whoever waits for the own object, whose content is there now, is answered: each asker is told the places or the kept content, in order of
+/// Whoever waits for the own object, whose content is there now, is answered: each asker is told the locations or the kept content, in order of
 /// asking, and none of them waits any more; the own attempt, if it waits for the object, looks for it.
 pub fn answer_settled(
     alloc: Global,
@@ -65,9 +65,9 @@ pub fn answer_settled(
     };
     let askers = found.askers.copy(alloc)?;
     let number = settled_number(found);
-    let places = found.places.copy(alloc)?;
+    let locations = found.locations.copy(alloc)?;
     let kept = copy_of(&found.kept, alloc)?;
     clear_askers(alloc, here, object);
-    tell_places(alloc, here, &askers, object, number, &places, &kept)?;
+    tell_locations(alloc, here, &askers, object, number, &locations, &kept)?;
     need_own_if_waiting(alloc, here, object)
 }

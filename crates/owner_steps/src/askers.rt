@@ -4,9 +4,9 @@ ghost use Rattle.std.specs.Prelude.{◌≡◌, OnOk, Some, None};
 ghost use Rattle.protocol.specs.Numbered.{changed_at};
 ghost use Rattle.protocol.specs.Tables.{with_asker};
 ghost use Rattle.protocol.specs.Steps.{changes};
-ghost use Rattle.protocol.specs.Places.{hands_missing_on, missing_from, missing_reached, takes_place, tells_released, where_reached};
+ghost use Rattle.protocol.specs.Locations.{hands_missing_on, missing_from, missing_reached, takes_location, tells_released, where_reached};
 
-use crate::needs::{need_own_if_waiting, remove_place, settled_number};
+use crate::needs::{need_own_if_waiting, remove_location, settled_number};
 use crate::recovery::recover;
 use ids::{NodeId, ObjectId, WorkerId};
 use lineage::{has_content, is_lost};
@@ -54,7 +54,7 @@ fn tell_released(
     say(here, worker, Message::Gone(object, why))
 }
 
-/// Another worker asks where the own object is: it is told that there is no content (Gone), or all places or the content
+/// Another worker asks where the own object is: it is told that there is no content (Gone), or all locations or the content
 /// that the owner keeps (At), or it waits. A lost object is made again. Of one that was released it is told that there is no content, where an
 /// object of the dead held it.
 pub fn where_reached(
@@ -76,9 +76,9 @@ pub fn where_reached(
     }
     if has_content(found) {
         let number = settled_number(found);
-        let places = found.places.copy(alloc)?;
+        let locations = found.locations.copy(alloc)?;
         let kept = copy_of(&found.kept, alloc)?;
-        return say(here, worker, Message::At(object, number, places, kept));
+        return say(here, worker, Message::At(object, number, locations, kept));
     }
     if found.is_released {
         let dead_holder = found.dead_holder;
@@ -91,9 +91,9 @@ pub fn where_reached(
     add_asker(here, object, worker)
 }
 
-/// A place of that content of the own object is none any more.
-fn take_place(here: &mut WorkerContext, object: ObjectId, number: u32, node: NodeId)
-    ensures { here.new ≡ takes_place here.old object number node }
+/// A location of that content of the own object is none any more.
+fn take_location(here: &mut WorkerContext, object: ObjectId, number: u32, node: NodeId)
+    ensures { here.new ≡ takes_location here.old object number node }
 {
     let Some(found) = object_at(here, object) else {
         return;
@@ -101,7 +101,7 @@ fn take_place(here: &mut WorkerContext, object: ObjectId, number: u32, node: Nod
     if !is_present(number, found) {
         return;
     }
-    remove_place(here, object, node);
+    remove_location(here, object, node);
 }
 
 /// The owner is told of it, by the waiting attempt or in its place.
@@ -134,7 +134,7 @@ fn missing_from(
     }
 }
 
-/// There is no copy of the content of that number at the node. The owner takes that place out, and then treats a worker that told it as one
+/// There is no copy of the content of that number at the node. The owner takes that location out, and then treats a worker that told it as one
 /// that asks; where a node told it, the own waiting attempt looks again. Another worker hands it on to the owner.
 pub fn missing_reached(
     alloc: Global,
@@ -149,6 +149,6 @@ pub fn missing_reached(
     if !is_own(here, object) {
         return hand_missing_on(here, object, number, node);
     }
-    take_place(here, object, number, node);
+    take_location(here, object, number, node);
     missing_from(alloc, here, sender, object)
 }

@@ -52,15 +52,15 @@ fn put_object(
 ) -> Result<Object, AllocError>
     ensures { IfOk result (λ x. x ≡ put_object bearer ids node) }
 {
-    let mut places = Seq::new(alloc);
-    places.push(node)?;
-    let ever = places.copy(alloc)?;
+    let mut locations = Seq::new(alloc);
+    locations.push(node)?;
+    let all_locations = locations.copy(alloc)?;
     Ok(Object {
         source: ObjectSource::WasPut,
         bearer,
         settled: Some(0),
-        places,
-        ever,
+        locations,
+        all_locations,
         kept: None,
         ids,
         added: Seq::new(alloc),
@@ -86,8 +86,8 @@ fn task_object(
         source,
         bearer,
         settled: None,
-        places: Seq::new(alloc),
-        ever: Seq::new(alloc),
+        locations: Seq::new(alloc),
+        all_locations: Seq::new(alloc),
         kept: None,
         ids,
         added: Seq::new(alloc),

@@ -24,7 +24,7 @@ use worker_steps::{
 
 // ---- stops
 
-/// The place of the object is looked for.
+/// The location of the object is looked for.
 fn ask_where(alloc: Global, here: &mut WorkerContext, object: ObjectId) -> Result<(), AllocError>
     ensures { OnOk result (here.new ≡ asks_where here.old object) }
 {

@@ -2,7 +2,7 @@
 
 ghost use Rattle.std.specs.Prelude.{◌≡◌, ◌&&◌, ◌-◌, ◌==◌, IfOk, OnOk, [], ◌∷◌, ◌++◌, Some, None, drop, true};
 ghost use Rattle.protocol.specs.Numbered.{changed_at, item_at};
-ghost use Rattle.protocol.specs.Tables.{ever_for, is_pending_task, places_for, task_of, with_content};
+ghost use Rattle.protocol.specs.Tables.{ever_for, is_pending_task, locations_for, task_of, with_content};
 ghost use Rattle.protocol.specs.Steps.{changes, with_task_of};
 ghost use Rattle.protocol.specs.Asking.{rests};
 ghost use Rattle.protocol.specs.Ends.{accepts, failed_by, failed_reached, fails, finished_by, finished_reached, first_result, hears_of_end, if_present, settles};
@@ -57,33 +57,33 @@ pub fn rest(here: &mut WorkerContext, object: ObjectId, number: u32)
 }
 
 /// Where a content is that was made at the node: there, unless the owner keeps it.
-fn places_for(
+fn locations_for(
     alloc: Global,
     node: NodeId,
     kept: &Option<SharedContent>,
 ) -> Result<Seq<NodeId>, AllocError>
-    ensures { IfOk result (λ places. places ≡ places_for node kept.now) }
+    ensures { IfOk result (λ locations. locations ≡ locations_for node kept.now) }
 {
-    let mut places = Seq::new(alloc);
+    let mut locations = Seq::new(alloc);
     if kept.is_some() {
-        return Ok(places);
+        return Ok(locations);
     }
-    places.push(node)?;
-    Ok(places)
+    locations.push(node)?;
+    Ok(locations)
 }
 
 /// A copy was ever known at the node too where a content was made there, unless the owner keeps it.
 fn note_made(
-    ever: &mut Seq<NodeId>,
+    all_locations: &mut Seq<NodeId>,
     node: NodeId,
     kept: &Option<SharedContent>,
 ) -> Result<(), AllocError>
-    ensures { OnOk result (ever.new ≡ ever_for node kept.now ever.old) }
+    ensures { OnOk result (all_locations.new ≡ ever_for node kept.now all_locations.old) }
 {
     if kept.is_some() {
         return Ok(());
     }
-    add_node(ever, node)
+    add_node(all_locations, node)
 }
 
 /// The object of that serial has the content of the accepted attempt.
@@ -101,12 +101,12 @@ fn set_content_at(
     let Some(place) = row_of(objects, serial) else {
         return Ok(());
     };
-    let places = places_for(alloc, node, kept)?;
+    let locations = locations_for(alloc, node, kept)?;
     let own = copy_of(kept, alloc)?;
     let object = objects.row_mut(place);
     object.settled = Some(number);
-    object.places = places;
-    note_made(&mut object.ever, node, kept)?;
+    object.locations = locations;
+    note_made(&mut object.all_locations, node, kept)?;
     object.kept = own;
     add_objects(&mut object.ids, ids)?;
     Ok(())

@@ -4,10 +4,10 @@ ghost use Rattle.std.specs.Prelude.{◌≡◌, OnOk, [], Some, None};
 ghost use Rattle.std.specs.Option.{unwrap_or};
 ghost use Rattle.protocol.specs.Numbered.{changed_at};
 ghost use Rattle.protocol.specs.Stores.{copy_in};
-ghost use Rattle.protocol.specs.Tables.{settled_number, without_place, without_places};
+ghost use Rattle.protocol.specs.Tables.{settled_number, without_location, without_locations};
 ghost use Rattle.protocol.specs.Steps.{changes, object_at};
-ghost use Rattle.protocol.specs.Places.{looks_at_places, looks_elsewhere, looks_for_by, looks_here_by};
-ghost use Rattle.protocol.specs.Places.{needs_own, needs_own_if_waiting, needs_released, needs_unresolved};
+ghost use Rattle.protocol.specs.Locations.{looks_at_locations, looks_elsewhere, looks_for_by, looks_here_by};
+ghost use Rattle.protocol.specs.Locations.{needs_own, needs_own_if_waiting, needs_released, needs_unresolved};
 ghost use Rattle.protocol_data.specs.declared.tables.Object.{Object};
 
 use crate::recovery::{recover, recover_if_lost};
@@ -20,7 +20,7 @@ use protocol_data::{Object, Objects, Worker, WorkerContext, copy_of};
 use sequence::Seq;
 use std::alloc::{AllocError, Global};
 use values::{Fault, FaultKind};
-use worker_steps::{fault, fetch, get, is_waiting_for, live_place, object_at, set_fetching};
+use worker_steps::{fault, fetch, get, is_waiting_for, live_location, object_at, set_fetching};
 
 /// The number of the attempt whose content it has, 0 for what was put.
 pub fn settled_number(object: &Object) -> u32
@@ -29,56 +29,56 @@ pub fn settled_number(object: &Object) -> u32
     object.settled.unwrap_or(0)
 }
 
-/// The place is taken out of the object of that serial.
-fn remove_place_at(objects: &mut Objects, serial: u64, node: NodeId)
-    ensures { objects.new ≡ changed_at objects.old serial (without_place node) }
+/// The location is taken out of the object of that serial.
+fn remove_location_at(objects: &mut Objects, serial: u64, node: NodeId)
+    ensures { objects.new ≡ changed_at objects.old serial (without_location node) }
 {
     let Some(place) = row_of(objects, serial) else {
         return;
     };
     let object = objects.row_mut(place);
-    remove_node(&mut object.places, node);
+    remove_node(&mut object.locations, node);
 }
 
-/// The place is taken out of the own object's.
-pub fn remove_place(here: &mut WorkerContext, object: ObjectId, node: NodeId)
-    ensures { here.new ≡ changes here.old object (without_place node) }
+/// The location is taken out of the own object's.
+pub fn remove_location(here: &mut WorkerContext, object: ObjectId, node: NodeId)
+    ensures { here.new ≡ changes here.old object (without_location node) }
 {
-    remove_place_at(&mut here.worker.objects, object.serial, node);
+    remove_location_at(&mut here.worker.objects, object.serial, node);
 }
 
-/// The object of that serial has no place.
-fn clear_places_at(alloc: Global, objects: &mut Objects, serial: u64)
-    ensures { objects.new ≡ changed_at objects.old serial without_places }
+/// The object of that serial has no location.
+fn clear_locations_at(alloc: Global, objects: &mut Objects, serial: u64)
+    ensures { objects.new ≡ changed_at objects.old serial without_locations }
 {
     let Some(place) = row_of(objects, serial) else {
         return;
     };
     let object = objects.row_mut(place);
-    object.places = Seq::new(alloc);
+    object.locations = Seq::new(alloc);
 }
 
-/// The own object has no place.
-fn clear_places(alloc: Global, here: &mut WorkerContext, object: ObjectId)
-    ensures { here.new ≡ changes here.old object without_places }
+/// The own object has no location.
+fn clear_locations(alloc: Global, here: &mut WorkerContext, object: ObjectId)
+    ensures { here.new ≡ changes here.old object without_locations }
 {
-    clear_places_at(alloc, &mut here.worker.objects, object.serial);
+    clear_locations_at(alloc, &mut here.worker.objects, object.serial);
 }
 
-/// The first place that isn't known dead; where there is none, the content is lost, and made again unless an attempt is under way.
+/// The first location that isn't known dead; where there is none, the content is lost, and made again unless an attempt is under way.
 fn look_elsewhere(
     alloc: Global,
     here: &mut WorkerContext,
     object: ObjectId,
     number: u32,
-    places: &Seq<NodeId>,
+    locations: &Seq<NodeId>,
 ) -> Result<(), AllocError>
-    ensures { (x : Object) → settled_number x ≡ number → x.places ≡ places.now → OnOk result (here.new ≡ looks_elsewhere here.old object x) }
+    ensures { (x : Object) → settled_number x ≡ number → x.locations ≡ locations.now → OnOk result (here.new ≡ looks_elsewhere here.old object x) }
 {
-    if let Some(node) = live_place(&here.worker, places) {
+    if let Some(node) = live_location(&here.worker, locations) {
         return fetch(here, object, number, node);
     }
-    clear_places(alloc, here, object);
+    clear_locations(alloc, here, object);
     recover_if_lost(alloc, here, object)
 }
 
@@ -88,13 +88,13 @@ fn look_past(
     here: &mut WorkerContext,
     object: ObjectId,
     number: u32,
-    places: &Seq<NodeId>,
+    locations: &Seq<NodeId>,
 ) -> Result<(), AllocError>
-    ensures { (x : Object) → settled_number x ≡ number → x.places ≡ places.now → OnOk result (here.new ≡ looks_here_by here.old object x None) }
+    ensures { (x : Object) → settled_number x ≡ number → x.locations ≡ locations.now → OnOk result (here.new ≡ looks_here_by here.old object x None) }
 {
     let node = here.worker.node;
-    remove_place(here, object, node);
-    let mut others = places.copy(alloc)?;
+    remove_location(here, object, node);
+    let mut others = locations.copy(alloc)?;
     remove_node(&mut others, node);
     look_elsewhere(alloc, here, object, number, &others)
 }
@@ -105,31 +105,31 @@ fn look_here(
     here: &mut WorkerContext,
     object: ObjectId,
     number: u32,
-    places: &Seq<NodeId>,
+    locations: &Seq<NodeId>,
 ) -> Result<(), AllocError>
-    ensures { (x : Object) → settled_number x ≡ number → x.places ≡ places.now
+    ensures { (x : Object) → settled_number x ≡ number → x.locations ≡ locations.now
         → OnOk result (here.new ≡ looks_here_by here.old object x (copy_in here.old.there.node.store object (settled_number x))) }
 {
     let Some(content) = get_copy(alloc, &mut here.there.node.store, object, number)? else {
-        return look_past(alloc, here, object, number, places);
+        return look_past(alloc, here, object, number, locations);
     };
     get(alloc, here, &content)
 }
 
 /// The attempt looks for a copy of the content of an own object.
-fn look_at_places(
+fn look_at_locations(
     alloc: Global,
     here: &mut WorkerContext,
     object: ObjectId,
     number: u32,
-    places: &Seq<NodeId>,
+    locations: &Seq<NodeId>,
 ) -> Result<(), AllocError>
-    ensures { (x : Object) → settled_number x ≡ number → x.places ≡ places.now → OnOk result (here.new ≡ looks_at_places here.old object x) }
+    ensures { (x : Object) → settled_number x ≡ number → x.locations ≡ locations.now → OnOk result (here.new ≡ looks_at_locations here.old object x) }
 {
-    if has_node(places, here.worker.node) {
-        return look_here(alloc, here, object, number, places);
+    if has_node(locations, here.worker.node) {
+        return look_here(alloc, here, object, number, locations);
     }
-    look_elsewhere(alloc, here, object, number, places)
+    look_elsewhere(alloc, here, object, number, locations)
 }
 
 /// The content that the owner keeps answers, else a copy is looked for.
@@ -138,13 +138,13 @@ fn look_for(
     here: &mut WorkerContext,
     object: ObjectId,
     number: u32,
-    places: &Seq<NodeId>,
+    locations: &Seq<NodeId>,
     kept: &Option<SharedContent>,
 ) -> Result<(), AllocError>
-    ensures { (x : Object) → settled_number x ≡ number → x.places ≡ places.now → OnOk result (here.new ≡ looks_for_by here.old object x kept.now) }
+    ensures { (x : Object) → settled_number x ≡ number → x.locations ≡ locations.now → OnOk result (here.new ≡ looks_for_by here.old object x kept.now) }
 {
     match kept {
-        None => look_at_places(alloc, here, object, number, places),
+        None => look_at_locations(alloc, here, object, number, locations),
         Some(content) => get(alloc, here, content),
     }
 }
@@ -165,7 +165,7 @@ fn need_released(
 }
 
 /// The worker's attempt needs an own object. A resolved one answers with its fault; what the owner keeps and a copy on the own node answer at
-/// once; else it is fetched from the first place that isn't known dead. Where no place is left the object is made again. One that was released
+/// once; else it is fetched from the first location that isn't known dead. Where no location is left the object is made again. One that was released
 /// answers with a fault where an object of the dead held it. For a pending one the attempt waits.
 pub fn need_own(alloc: Global, here: &mut WorkerContext, object: ObjectId) -> Result<(), AllocError>
     ensures { OnOk result (here.new ≡ needs_own here.old object) }
@@ -179,9 +179,9 @@ pub fn need_own(alloc: Global, here: &mut WorkerContext, object: ObjectId) -> Re
     }
     if has_content(found) {
         let number = settled_number(found);
-        let places = found.places.copy(alloc)?;
+        let locations = found.locations.copy(alloc)?;
         let kept = copy_of(&found.kept, alloc)?;
-        return look_for(alloc, here, object, number, &places, &kept);
+        return look_for(alloc, here, object, number, &locations, &kept);
     }
     if is_lost(&here.worker.objects, found) {
         return recover(alloc, here, object);

@@ -5,7 +5,7 @@ ghost use Rattle.meaning.specs.Runs.{past};
 ghost use Rattle.protocol.specs.Asking.{answers_faulted, resolves_used};
 ghost use Rattle.protocol.specs.Ends.{resolves_open};
 ghost use Rattle.protocol.specs.Holders.{holds_ids};
-ghost use Rattle.protocol.specs.Places.{answers_settled};
+ghost use Rattle.protocol.specs.Locations.{answers_settled};
 ghost use Rattle.protocol.specs.Steps.{own_id};
 ghost use Rattle.owner_steps.specs.Each.{each_own};
 

@@ -5,7 +5,7 @@ ghost use Rattle.protocol.specs.Asking.{given_reached};
 ghost use Rattle.protocol.specs.Commits.{bears_all};
 ghost use Rattle.protocol.specs.Ends.{failed_reached, finished_reached};
 ghost use Rattle.protocol.specs.Notices.{notice_node_step, notice_step};
-ghost use Rattle.protocol.specs.Places.{adds_places, missing_reached, where_reached};
+ghost use Rattle.protocol.specs.Locations.{adds_locations, missing_reached, where_reached};
 ghost use Rattle.protocol.specs.Releases.{release_step};
 
 use held::SharedBirth;
@@ -18,7 +18,7 @@ use sequence::Seq;
 use std::alloc::{AllocError, Global};
 use values::Fault;
 use worker_acts::{notice_node_step, notice_step};
-use worker_steps::{add_places_of, release_all};
+use worker_steps::{add_locations_of, release_all};
 
 /// A worker's own objects in an event: what is told of them, and what is done then. An error is want of memory; then nothing is said of
 /// the tables.
@@ -153,9 +153,9 @@ impl OwnerTable for WorkerContext {
         number: u32,
         nodes: &Seq<NodeId>,
     ) -> Result<(), AllocError>
-        ensures { OnOk result (self.new ≡ adds_places self.old object number nodes.now) }
+        ensures { OnOk result (self.new ≡ adds_locations self.old object number nodes.now) }
     {
-        add_places_of(self, object, number, nodes)
+        add_locations_of(self, object, number, nodes)
     }
 
     fn missing(

@@ -94,7 +94,7 @@ driver = record (new_worker 1) { run = Some main_run; began = main_attempt ∷ [
 
 -- node 1 has given the driver a slot
 abbrev pub with_driver : List Node → List Node
-with_driver nodes = changed_at nodes 1 (λ node. record node { scheduler = record node.scheduler { holders = 1 ∷ [] } })
+with_driver nodes = changed_at nodes 1 (λ node. record node { scheduler = record node.scheduler { slot_holders = 1 ∷ [] } })
 
 -- so many nodes with so many slots each, as a run begins
 abbrev pub first_whole : ℕ → ℕ → ClusterState

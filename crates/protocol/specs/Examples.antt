@@ -11,8 +11,8 @@ use Rattle.protocol.specs.Jobs.{AtGet, Nothing, OfAnother}
 use Rattle.protocol.specs.Stores.{Store, copy_in, empty_store, evict_refusal, evicted, looked_up, lose_refusal, with_primary, with_secondary, without_copies}
 use Rattle.protocol.specs.Nodes.{NodeContext, new_node, no_out}
 use Rattle.protocol.specs.Slots.{ask_key, asked, asks_slot, frees, is_back}
-use Rattle.protocol.specs.Tables.{ByTask, Object, is_held, new_object, new_task, new_worker, put_object, with_content, with_holder, with_place}
-use Rattle.protocol.specs.Tables.{without_holder, without_place, without_places}
+use Rattle.protocol.specs.Tables.{ByTask, Object, is_held, new_object, new_task, new_worker, put_object, with_content, with_holder, with_location}
+use Rattle.protocol.specs.Tables.{without_holder, without_location, without_locations}
 use Rattle.protocol.specs.Steps.{WorkerContext}
 use Rattle.protocol.specs.Recovery.{counted_from, first_stop, members}
 use Rattle.protocol.specs.Releases.{releases_all}
@@ -82,11 +82,12 @@ made_from_these ks retries = Task (codes "f") (map (λ k. record { value = Named
 
 -- an object of such a task, with a content at these nodes
 abbrev pub made : List ℕ → ℕ → List ℕ → Object
-made ks retries nodes = record (new_object (ByTask (new_task (made_from_these ks retries))) main_attempt []) { settled = Some 0; places = nodes; ever = nodes }
+made ks retries nodes =
+    record (new_object (ByTask (new_task (made_from_these ks retries))) main_attempt []) { settled = Some 0; locations = nodes; all_locations = nodes }
 
 -- what was put, and is lost
 abbrev pub lost_put : Object
-lost_put = without_places first_put
+lost_put = without_locations first_put
 
 -- node 1, with one slot, of so many nodes
 abbrev pub node_of : ℕ → NodeContext
@@ -130,15 +131,15 @@ pub record PlansAre : Type 0 where
 
 -- what was put on node 1 got a copy at node 2, then that of node 1 was missed: nobody knows whether it is gone, or came late
 abbrev pub missed_put : Object
-missed_put = without_place 1 (with_place 2 first_put)
+missed_put = without_location 1 (with_location 2 first_put)
 
 -- made on node 2, lost, and made again on node 1
 abbrev pub made_twice : Object
-made_twice = with_content 1 1 [] None (without_places (with_content 0 2 [] None (new_object (ByTask (new_task (made_from_these [] 3))) main_attempt [])))
+made_twice = with_content 1 1 [] None (without_locations (with_content 0 2 [] None (new_object (ByTask (new_task (made_from_these [] 3))) main_attempt [])))
 
 -- then made a third time, on node 3, where it is small and the owner keeps it
 abbrev pub kept_at_last : Object
-kept_at_last = with_content 2 3 [] (Some one) (without_places made_twice)
+kept_at_last = with_content 2 3 [] (Some one) (without_locations made_twice)
 
 -- what is sent where worker 1's first object is that, and is released
 abbrev pub told_at_release : Object → List Envelope
@@ -154,7 +155,7 @@ pub record ReleasesTell : Type 0 where
   pub a_place_that_was_missed : told_at_release missed_put ≡ copies_go 1 ∷ copies_go 2 ∷ []
   pub a_place_of_an_earlier_content : told_at_release made_twice ≡ copies_go 2 ∷ copies_go 1 ∷ []
   pub none_for_what_is_kept : told_at_release kept_at_last ≡ copies_go 2 ∷ copies_go 1 ∷ []
-  pub back_again : told_at_release (with_place 1 missed_put) ≡ copies_go 1 ∷ copies_go 2 ∷ []
+  pub back_again : told_at_release (with_location 1 missed_put) ≡ copies_go 1 ∷ copies_go 2 ∷ []
 
 -- ---- asks and slots
 
@@ -177,8 +178,8 @@ pub record AsksAre : Type 0 where
       ∷ envelope (TheNode 1) (TheWorker 1) (Wait (attempt (object_id 1 2) 0) 1)
       ∷ envelope (TheNode 1) (TheWorker 1) (Wait (attempt (object_id 1 2) 0) 1)
       ∷ []
-  pub granted : (frees queued_twice 2).node.scheduler.holders ≡ 3 ∷ []
-  pub answered_first : (frees (asks_slot queued_twice 1) 2).node.scheduler.holders ≡ 1 ∷ []
+  pub granted : (frees queued_twice 2).node.scheduler.slot_holders ≡ 3 ∷ []
+  pub answered_first : (frees (asks_slot queued_twice 1) 2).node.scheduler.slot_holders ≡ 1 ∷ []
   pub still_queued : (frees (asks_slot queued_twice 1) 2).node.scheduler.queue ≡ ask_key (attempt (object_id 1 2) 0) 1 ∷ []
   pub idle_again : (is_back (frees two_asks 2) 2 (attempt (object_id 1 1) 0)).node.scheduler.idle ≡ 2 ∷ []
   pub not_by_another : (is_back (frees two_asks 2) 2 (attempt (object_id 1 2) 0)).node.scheduler.idle ≡ []

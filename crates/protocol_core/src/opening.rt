@@ -31,10 +31,10 @@ fn give_driver_a_slot(alloc: Global, nodes: &mut Seq<Node>) -> Result<(), AllocE
     requires { 0 < length nodes.old }
     ensures { OnOk result (nodes.new ≡ with_driver nodes.old) }
 {
-    let mut holders = Seq::new(alloc);
-    holders.push(WorkerId(1))?;
+    let mut slot_holders = Seq::new(alloc);
+    slot_holders.push(WorkerId(1))?;
     let node = &mut nodes.items[0];
-    node.scheduler.holders = holders;
+    node.scheduler.slot_holders = slot_holders;
     Ok(())
 }
 

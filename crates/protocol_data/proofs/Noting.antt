@@ -30,7 +30,7 @@ right_false : (a b : Bool) → (a || b) ≡ false → b ≡ false
 right_false false b h = h
 right_false true b h = absurd (true_false h)
 
-key_parts : (a b : Attempt) (m n : ℕ) → a ≡ b → m ≡ n → ◌≡◌ {A = AskKey} (record { attempt = a; t = m }) (record { attempt = b; t = n })
+key_parts : (a b : Attempt) (m n : ℕ) → a ≡ b → m ≡ n → ◌≡◌ {A = AskKey} (record { attempt = a; hops = m }) (record { attempt = b; hops = n })
 key_parts a b m n e f = cc
 
 same_number : (m n : ℕ) → (m == n) ≡ true → m ≡ n
@@ -38,8 +38,8 @@ same_number m n h = grind (arith, nat_tests, h)
 
 pub key_is : (k : AskKey) (x : Asked) → is_that_ask k x ≡ true → x.key ≡ k
 key_is k x h =
-    key_parts x.key.attempt k.attempt x.key.t k.t (same_attempt-true x.key.attempt k.attempt (and_left (same_attempt x.key.attempt k.attempt) (x.key.t == k.t) h))
-    (same_number x.key.t k.t (and_right (same_attempt x.key.attempt k.attempt) (x.key.t == k.t) h))
+    key_parts x.key.attempt k.attempt x.key.hops k.hops (same_attempt-true x.key.attempt k.attempt (and_left (same_attempt x.key.attempt k.attempt) (x.key.hops == k.hops) h))
+    (same_number x.key.hops k.hops (and_right (same_attempt x.key.attempt k.attempt) (x.key.hops == k.hops) h))
 
 -- one without a mark isn't there
 pub unmarked : (marks : List (List ℕ)) (xs : List Asked) (k : AskKey) → AreMarked marks xs → may_be_marked marks k.attempt.object ≡ false → list_any (is_that_ask k) xs ≡ false

@@ -18,7 +18,7 @@ may_be_noted bounds o = not (nat_lt o.owner 4096) || not (nat_lt (serial_or (sli
 
 -- it is that ask
 abbrev pub is_that_ask : AskKey → Asked → Bool
-is_that_ask k r = same_attempt r.key.attempt k.attempt && (r.key.t == k.t)
+is_that_ask k r = same_attempt r.key.attempt k.attempt && (r.key.hops == k.hops)
 
 -- no ask stands twice
 abbrev pub AreDistinct : List Asked → Type 0

@@ -84,7 +84,7 @@ fn answered(key: &AskKey, reply: &AskReply) -> Option<Asked>
 fn is_that_ask(key: &AskKey, asked: &Asked) -> bool
     ensures { result ≡ is_that_ask key.now asked.now }
 {
-    asked.key.attempt.is(key.attempt) && asked.key.t == key.t
+    asked.key.attempt.is(key.attempt) && asked.key.hops == key.hops
 }
 
 fn is_that_row(key: &AskKey, row: &Option<Asked>) -> bool

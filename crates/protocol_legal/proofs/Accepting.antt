@@ -16,7 +16,7 @@ use Rattle.kind_laws.specs.of_event_log.Rules.{AreUnspent, IsUnresolved, MayAcce
 use Rattle.kind_laws.proofs.of_event_log.WordLaws.{same_attempt-true}
 use Rattle.numbered.specs.of_protocol.Numbered.{item_at, changed_at}
 use Rattle.numbered.specs.of_protocol.Sets.{fault, has, object_id}
-use Rattle.numbered.specs.of_protocol.Tables.{Beside, Progress, AtRest, AskedAt, RunsOn, OwnTask, ObjectSource, ByTask, WasPut, Object, Worker, first_by, is_pending_task, is_under_way, is_wanted, task_in, task_of, with_task, with_content, places_for}
+use Rattle.numbered.specs.of_protocol.Tables.{Beside, Progress, AtRest, AskedAt, RunsOn, OwnTask, ObjectSource, ByTask, WasPut, Object, Worker, first_by, is_pending_task, is_under_way, is_wanted, task_in, task_of, with_task, with_content, locations_for}
 use Rattle.numbered.specs.of_protocol.Messages.{EndedResult}
 use Rattle.numbered.specs.of_protocol.Steps.{WorkerContext, logs, with_task_of}
 use Rattle.numbered.specs.of_protocol.Asking.{rests}
@@ -248,7 +248,7 @@ module _ (f : Frame) (asked : List Asking) (h : WorkerContext) (s : SoundHere f 
     pub there : item_at rested (k + i) ≡ Some new
     pub bearer : new.bearer ≡ old.bearer
     pub fault : new.fault ≡ old.fault
-    pub places : new.places ≡ old.places
+    pub locations : new.locations ≡ old.locations
     pub settled : new.settled ≡ old.settled
     pub kept : new.kept ≡ old.kept
     pub names : (log : List Entry) → NamesOf log (object_id h.me (k + i)) old → NamesOf log (object_id h.me (k + i)) new
@@ -272,7 +272,7 @@ module _ (f : Frame) (asked : List Asking) (h : WorkerContext) (s : SoundHere f 
         there = ap (item_at rested) e ∙ item-same h.worker.objects k (with_task (rests task)) row.object at;
         bearer = refl;
         fault = refl;
-        places = refl;
+        locations = refl;
         settled = refl;
         kept = refl;
         names = λ log n. n;
@@ -290,7 +290,7 @@ module _ (f : Frame) (asked : List Asking) (h : WorkerContext) (s : SoundHere f 
         there = item-elsewhere h.worker.objects (k + i) k (with_task (rests task)) b ∙ row.there;
         bearer = refl;
         fault = refl;
-        places = refl;
+        locations = refl;
         settled = refl;
         kept = refl;
         names = λ log n. n;
@@ -403,8 +403,8 @@ module _ (f : Frame) (asked : List Asking) (h : WorkerContext) (s : SoundHere f 
         let at : item_at rested (k + 0) ≡ Some (with_task (rests task) t.object) = ap (item_at rested) e ∙ item-same h.worker.objects k (with_task (rests task)) t.object t.there in
         ap (λ j. task_of (item_at ys j)) (sym e) ∙ ap task_of (settled_in rested k task.number m results rs 0 (told 0 l).result (with_task (rests task) t.object) l (told 0 l).there at)
 
-    is_place : (n : ℕ) (its : Option Outcome) → its ≡ None → has (places_for n its) n ≡ true
-    is_place n its none = let u : (n == n) ≡ true = grind (arith, nat_tests) in ap (λ v. has (places_for n v) n) none ∙ ap (λ c. Rattle.std.specs.Prelude.◌||◌ c false) u
+    is_place : (n : ℕ) (its : Option Outcome) → its ≡ None → has (locations_for n its) n ≡ true
+    is_place n its none = let u : (n == n) ≡ true = grind (arith, nat_tests) in ap (λ v. has (locations_for n v) n) none ∙ ap (λ c. Rattle.std.specs.Prelude.◌||◌ c false) u
 
     -- what is known of the result then
     result_now : (j place : ℕ) (z : Object) (its : List Id) (l : place < results) → z.is_released ≡ false → KnowsResult q.log (object_id h.me j) o place (with_content task.number m its (told place l).result.kept z) false

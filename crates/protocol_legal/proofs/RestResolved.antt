@@ -156,7 +156,7 @@ module _ (test : Object → Bool) (cause : ℕ → ℕ → Fault) where
         (allowed : (s : Setting) (log : List Entry) (v j : ℕ) → same_id (object_id v j) main_object ≡ false → IsOwn s log v → resolves_of (object_id v j) log ≡ [] → Reason log v j → MayResolve s log (object_id v j) (cause v j))
         (reasons : (j : ℕ) (z : Object) → IsResultOf p h.worker.objects (object_id h.me j) z k task → Reason p.log h.me j)
         (known_then : (j : ℕ) (z : Object) → IsResultOf p h.worker.objects (object_id h.me j) z k task → resolves_of (object_id h.me j) q.log ≡ cause h.me j ∷ [] → IsKnownFault q.log (cause h.me j))
-        (settled : (at : ℕ) (new : Object) → new.fault ≡ None → test new ≡ false → ((number : ℕ) → new.settled ≡ Some number → HasAccepted q.log o number at new) → (new.settled ≡ None → (new.places ≡ []) × (new.kept ≡ None)) → IsSettled q.log o at new) where
+        (settled : (at : ℕ) (new : Object) → new.fault ≡ None → test new ≡ false → ((number : ℕ) → new.settled ≡ Some number → HasAccepted q.log o number at new) → (new.settled ≡ None → (new.locations ≡ []) × (new.kept ≡ None)) → IsSettled q.log o at new) where
       can : CanResolve test cause Reason stays allowed f (with_worker h y) xs k r
       can i z l at wanted =
           let row = rested_row f asked h s k task t pending i l in
@@ -195,7 +195,7 @@ module _ (test : Object → Bool) (cause : ℕ → ℕ → Fault) where
           ∙ at_test (λ b. task_of (Some (if b then with_fault (cause h.me (k + 0)) z else z)) ≡ Some (rests task)) (test z) (λ b. refl) (λ b. refl)
 
       -- what is known of the result then
-      result_then : (j at : ℕ) (new : Object) → (made : (number : ℕ) → new.settled ≡ Some number → HasAccepted p.log o number at new) → (new.settled ≡ None → (new.places ≡ []) × (new.kept ≡ None)) →
+      result_then : (j at : ℕ) (new : Object) → (made : (number : ℕ) → new.settled ≡ Some number → HasAccepted p.log o number at new) → (new.settled ≡ None → (new.locations ≡ []) × (new.kept ≡ None)) →
           KnowsResult q.log (object_id h.me j) o at (resolved_row test cause h.me j new) false
       result_then j at new made bare =
           at_test (λ b. test new ≡ b → KnowsResult q.log (object_id h.me j) o at (if b then with_fault (cause h.me j) new else new) false) (test new)
@@ -254,7 +254,7 @@ module _ (test : Object → Bool) (cause : ℕ → ℕ → Fault) where
           let release : v.is_released ≡ z.is_released = th.is_released ∙ row.is_released ∙ ap (λ (x : Object). x.is_released) u.old in
           let new_fault : row.new.fault ≡ z.fault = row.fault ∙ ap (λ (x : Object). x.fault) u.old in
           let new_settled : row.new.settled ≡ z.settled = row.settled ∙ ap (λ (x : Object). x.settled) u.old in
-          let new_places : row.new.places ≡ z.places = row.places ∙ ap (λ (x : Object). x.places) u.old in
+          let new_locations : row.new.locations ≡ z.locations = row.locations ∙ ap (λ (x : Object). x.locations) u.old in
           let new_kept : row.new.kept ≡ z.kept = row.kept ∙ ap (λ (x : Object). x.kept) u.old in
           let new_release : row.new.is_released ≡ z.is_released = row.is_released ∙ ap (λ (x : Object). x.is_released) u.old in
           let old_names : NamesOf p.log (object_id h.me (k + u.place.place)) row.old = subst (λ i. NamesOf p.log (object_id h.me i) row.old) u.place.serial (subst (NamesOf p.log (object_id h.me j)) (sym u.old) ko.names) in
@@ -266,7 +266,7 @@ module _ (test : Object → Bool) (cause : ℕ → ℕ → Fault) where
             part_grows p q way (object_id h.me j) (record { born = record { object = o; birth = task.spec }; place = km.0 }) km.3,
             subst (λ x. KnowsResult q.log (object_id h.me j) o km.0 x false) (sym u.new)
                 (result_then j km.0 row.new (λ number e. accepted_same p.log o number km.0 z row.new new_release new_kept (km.4.made number (sym new_settled ∙ e)))
-                (λ e. let b = km.4.bare (sym new_settled ∙ e) in (new_places ∙ b.0, new_kept ∙ b.1))),
+                (λ e. let b = km.4.bare (sym new_settled ∙ e) in (new_locations ∙ b.0, new_kept ∙ b.1))),
           ) in
           let words : resolves_of (object_id h.me j) q.log ≡ listed z.fault ++ resolved_once test cause h.me j row.new = resolves_then j ∙ ap (λ xs'. xs' ++ flat_map (resolved_in (object_id h.me j)) es) ko.resolved ∙ ap (λ ws. listed z.fault ++ ws) u.resolved in
           record {

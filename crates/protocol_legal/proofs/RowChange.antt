@@ -57,8 +57,8 @@ module _ (f : Frame) (asked : List Asking) (h : WorkerContext) (s : SoundHere f 
 pub accepted_same : (log : List Entry) (first : Id) (number place : ℕ) (z v : Object) → v.is_released ≡ z.is_released → v.kept ≡ z.kept → HasAccepted log first number place z → HasAccepted log first number place v
 accepted_same log first number place z v er ek a = record { accepted = a.accepted; contents = a.contents; ended = a.ended; content = a.content; has = a.has; small = ek ∙ a.small ∙ ap (λ b. kept_until b a.content) (sym er) }
 
--- where its places and its content stay too
-pub plain_result : (log : List Entry) (o first : Id) (place : ℕ) (pending : Bool) (z v : Object) → v.settled ≡ z.settled → v.places ≡ z.places → v.fault ≡ z.fault → v.is_released ≡ z.is_released → v.kept ≡ z.kept →
+-- where its locations and its content stay too
+pub plain_result : (log : List Entry) (o first : Id) (place : ℕ) (pending : Bool) (z v : Object) → v.settled ≡ z.settled → v.locations ≡ z.locations → v.fault ≡ z.fault → v.is_released ≡ z.is_released → v.kept ≡ z.kept →
     KnowsResult log o first place z pending → KnowsResult log o first place v pending
 plain_result log o first place pending z v es ep ef er ek r = record {
   made = λ number e. accepted_same log first number place z v er ek (r.made number (sym es ∙ e));

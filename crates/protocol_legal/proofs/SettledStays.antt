@@ -11,12 +11,12 @@ use Rattle.kind_laws.specs.of_event_log.Entries.{main_attempt}
 use Rattle.numbered.specs.of_protocol.Numbered.{item_at, changed_at}
 use Rattle.numbered.specs.of_protocol.Sets.{fault, has, is_empty}
 use Rattle.numbered.specs.of_protocol.Stores.{copy_in, looked_up}
-use Rattle.numbered.specs.of_protocol.Tables.{Fetching, Object, OwnTask, Phase, Ready, Out, Waits, HasEnded, HasFaulted, Execution, first_by, has_content, has_stopped, is_lost, is_pending_task, is_waiting_for, knows_dead, live_place, owner_of, settled_number, task_by, with_fault, with_task, without_askers, without_place, without_places}
+use Rattle.numbered.specs.of_protocol.Tables.{Fetching, Object, OwnTask, Phase, Ready, Out, Waits, HasEnded, HasFaulted, Execution, first_by, has_content, has_stopped, is_lost, is_pending_task, is_waiting_for, knows_dead, live_location, owner_of, settled_number, task_by, with_fault, with_task, without_askers, without_location, without_locations}
 use Rattle.numbered.specs.of_protocol.Steps.{WorkerContext, changes, object_at, own_id, own_object, store_here, with_phase, with_run, with_store}
 use Rattle.numbered.specs.of_protocol.Runs.{faults, faults_at, faults_by, gets, gets_at, gets_by, gives_slot_back, leaves, leaves_by, tells, tells_stop, is_heard, with_fetching, with_fetching_at, with_fetching_by}
 use Rattle.numbered.specs.of_protocol.Asking.{answers_faulted, answers_faulted_by, answers_gone, faults_if_waiting, next_attempt, requests, resolves, tells_gone}
 use Rattle.numbered.specs.of_protocol.Recovery.{first_stop, gives_up, is_lost_here, members, recovers, recovers_by, remakes, remakes_by, remakes_one}
-use Rattle.numbered.specs.of_protocol.Places.{answers_settled, answers_settled_by, looks_at_places, looks_elsewhere, looks_elsewhere_by, looks_for, looks_for_by, looks_here_by, needs_at, needs_by, needs_own, needs_own_if_waiting, needs_released, tells_places}
+use Rattle.numbered.specs.of_protocol.Locations.{answers_settled, answers_settled_by, looks_at_locations, looks_elsewhere, looks_elsewhere_by, looks_for, looks_for_by, looks_here_by, needs_at, needs_by, needs_own, needs_own_if_waiting, needs_released, tells_locations}
 use Rattle.protocol_legal.proofs.Numbers.{item-elsewhere, item-same}
 
 -- the object of that serial has a content
@@ -160,29 +160,29 @@ keeps_recovers h o = by (first_stop h (members h o.serial))
 -- ---- the own attempt needs an own object
 
 keeps_elsewhere : (h : WorkerContext) (o : Id) (x : Object) → Keeps h (looks_elsewhere h o x)
-keeps_elsewhere h o x = by (live_place h.worker x.places)
+keeps_elsewhere h o x = by (live_location h.worker x.locations)
   where
     by : (r : Option ℕ) → Keeps h (looks_elsewhere_by h o x r)
     by None =
-        let g = changes h o without_places in
+        let g = changes h o without_locations in
         at_test (λ b. Keeps h (if b then recovers g o else g)) (is_lost_here g o)
-        (λ b j i. keeps_recovers g o j (keeps_changed h.worker.objects o.serial without_places (λ z. refl) j i)) (λ b j i. keeps_changed h.worker.objects o.serial without_places (λ z. refl) j i)
+        (λ b j i. keeps_recovers g o j (keeps_changed h.worker.objects o.serial without_locations (λ z. refl) j i)) (λ b j i. keeps_changed h.worker.objects o.serial without_locations (λ z. refl) j i)
     by (Some n) = λ j i. subst (λ xs. IsThere xs j) (sym (fetching_same h (Some (record { number = settled_number x; node = n })))) i
 
-keeps_at_places : (h : WorkerContext) (o : Id) (x : Object) → Keeps h (looks_at_places h o x)
-keeps_at_places h o x =
-    at_test (λ b. Keeps h (if b then looks_here_by h o x (copy_in (store_here h) o (settled_number x)) else looks_elsewhere h o x)) (has x.places h.worker.node)
+keeps_at_locations : (h : WorkerContext) (o : Id) (x : Object) → Keeps h (looks_at_locations h o x)
+keeps_at_locations h o x =
+    at_test (λ b. Keeps h (if b then looks_here_by h o x (copy_in (store_here h) o (settled_number x)) else looks_elsewhere h o x)) (has x.locations h.worker.node)
     (λ b. by (copy_in (store_here h) o (settled_number x))) (λ b. keeps_elsewhere h o x)
   where
     by : (r : Option Outcome) → Keeps h (looks_here_by h o x r)
-    by None j i = keeps_elsewhere (changes h o (without_place h.worker.node)) o (without_place h.worker.node x) j (keeps_changed h.worker.objects o.serial (without_place h.worker.node) (λ z. refl) j i)
+    by None j i = keeps_elsewhere (changes h o (without_location h.worker.node)) o (without_location h.worker.node x) j (keeps_changed h.worker.objects o.serial (without_location h.worker.node) (λ z. refl) j i)
     by (Some c) j i = subst (λ xs. IsThere xs j) (sym (gets_same (with_store h (looked_up (store_here h) o (settled_number x))) c)) i
 
 keeps_looks : (h : WorkerContext) (o : Id) (x : Object) → Keeps h (looks_for h o x)
 keeps_looks h o x = by x.kept
   where
     by : (r : Option Outcome) → Keeps h (looks_for_by h o x r)
-    by None = keeps_at_places h o x
+    by None = keeps_at_locations h o x
     by (Some c) = λ j i. subst (λ xs. IsThere xs j) (sym (gets_same h c)) i
 
 keeps_released : (h : WorkerContext) (r : Option Id) → Keeps h (needs_released h r)
@@ -205,9 +205,9 @@ keeps_needs h o =
     at_test (λ b. Keeps h (if b then needs_own h o else h)) (is_waiting_for h.worker o)
     (λ b j i. keeps_needs_at (with_fetching h None) o (object_at h o) j (subst (λ xs. IsThere xs j) (sym (fetching_same h None)) i)) (λ b j i. i)
 
-tells_places_same : (h : WorkerContext) (ws : List ℕ) (o : Id) (x : Object) → (tells_places h ws o x).worker.objects ≡ h.worker.objects
-tells_places_same h [] o x = refl
-tells_places_same h (w ∷ ws) o x = tells_places_same (Rattle.numbered.specs.of_protocol.Steps.says h w (Rattle.numbered.specs.of_protocol.Messages.At o (settled_number x) x.places x.kept)) ws o x
+tells_locations_same : (h : WorkerContext) (ws : List ℕ) (o : Id) (x : Object) → (tells_locations h ws o x).worker.objects ≡ h.worker.objects
+tells_locations_same h [] o x = refl
+tells_locations_same h (w ∷ ws) o x = tells_locations_same (Rattle.numbered.specs.of_protocol.Steps.says h w (Rattle.numbered.specs.of_protocol.Messages.At o (settled_number x) x.locations x.kept)) ws o x
 
 -- whoever waits for an object is answered
 pub keeps_answers : (h : WorkerContext) (o : Id) → Keeps h (answers_settled h o)
@@ -216,5 +216,5 @@ keeps_answers h o = by (object_at h o)
     by : (r : Option Object) → Keeps h (answers_settled_by h o r)
     by None j i = i
     by (Some x) j i =
-        keeps_needs (tells_places (changes h o without_askers) x.askers o x) o j
-        (subst (λ xs. IsThere xs j) (sym (tells_places_same (changes h o without_askers) x.askers o x)) (keeps_changed h.worker.objects o.serial without_askers (λ z. refl) j i))
+        keeps_needs (tells_locations (changes h o without_askers) x.askers o x) o j
+        (subst (λ xs. IsThere xs j) (sym (tells_locations_same (changes h o without_askers) x.askers o x)) (keeps_changed h.worker.objects o.serial without_askers (λ z. refl) j i))

@@ -85,7 +85,7 @@ module _ (f : Frame) (asked : List Asking) (h : WorkerContext) (s : SoundHere f 
         let before = row.before in
         let there = v.there in
         let old : row.old ≡ v.object = cc in
-        let wanted : is_wanted row.new ≡ true = ap (λ r'. is_none r' && is_nowhere row.new) row.fault ∙ ap (λ ps. is_none row.old.fault && (is_empty ps && is_none row.new.kept)) row.places ∙ ap (λ c. is_none row.old.fault && (is_empty row.old.places && is_none c)) row.kept ∙ ap is_wanted old ∙ v.wanted in
+        let wanted : is_wanted row.new ≡ true = ap (λ r'. is_none r' && is_nowhere row.new) row.fault ∙ ap (λ ps. is_none row.old.fault && (is_empty ps && is_none row.new.kept)) row.locations ∙ ap (λ c. is_none row.old.fault && (is_empty row.old.locations && is_none c)) row.kept ∙ ap is_wanted old ∙ v.wanted in
         let res : resolves_of (object_id h.me j) q.log ≡ used_up h.me j ∷ [] =
         resolves_then is_wanted used_up f asked h s k task t pending j ∙ ap (λ xs'. xs' ++ flat_map (resolved_in (object_id h.me j)) es) (ko.resolved ∙ ap listed (wanted_is_healthy v.object v.wanted))
         ∙ resolved_in_row is_wanted used_up xs h.me k r v.place row.new v.within row.there ∙ ap (λ b. if b then used_up h.me j ∷ [] else []) wanted in
@@ -98,7 +98,7 @@ module _ (f : Frame) (asked : List Asking) (h : WorkerContext) (s : SoundHere f 
         }
 
     -- an object that isn't resolved has a content that was accepted
-    settled_then : (at : ℕ) (new : Object) → new.fault ≡ None → is_wanted new ≡ false → ((number : ℕ) → new.settled ≡ Some number → HasAccepted q.log o number at new) → (new.settled ≡ None → (new.places ≡ []) × (new.kept ≡ None)) → IsSettled q.log o at new
+    settled_then : (at : ℕ) (new : Object) → new.fault ≡ None → is_wanted new ≡ false → ((number : ℕ) → new.settled ≡ Some number → HasAccepted q.log o number at new) → (new.settled ≡ None → (new.locations ≡ []) × (new.kept ≡ None)) → IsSettled q.log o at new
     settled_then at new none b made bare = go new.settled refl
       where
         go : (r' : Option ℕ) → new.settled ≡ r' → IsSettled q.log o at new

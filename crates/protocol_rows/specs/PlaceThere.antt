@@ -1,4 +1,4 @@
--- One of two results is lost; while the task runs again, the other one is told from its place. Later the release is told to the places of both attempts.
+-- One of two results is lost; while the task runs again, the other one is told from its location. Later the release is told to the locations of both attempts.
 -- `let a, b = remote(1) pair(4); let c = get a; let x = remote head(a); let d = get b; return d[0] + get x;`
 -- 45 events, 68 entries, 28 messages, 8 jobs.
 use Rattle.std.specs.Prelude.{List, None, Some, [], codes, ◌∷◌}

@@ -55,7 +55,7 @@ fn has_slot(whole: &ClusterState, number: WorkerId, node: NodeId) -> bool
     let Some(found) = item_at_number(&whole.nodes, u64::from(node.0)) else {
         return false;
     };
-    has_worker(&found.scheduler.holders, number)
+    has_worker(&found.scheduler.slot_holders, number)
 }
 
 /// Whether the attempt may be given out.

@@ -35,7 +35,7 @@ fn holder(whole: &ClusterState, number: u64, node: NodeId) -> Option<WorkerId>
     let Some(found) = item_at_number(&whole.nodes, u64::from(node.0)) else {
         return None;
     };
-    found_in(&found.scheduler.holders, number)
+    found_in(&found.scheduler.slot_holders, number)
 }
 
 /// The worker of that number, if it is ready and isn't left out.

@@ -9,7 +9,7 @@ use Rattle.meaning.specs.Values.{Id}
 use Rattle.numbered.proofs.Lists.{changed_cases}
 use Rattle.numbered.specs.of_protocol.Ends.{first_result, settles}
 use Rattle.numbered.specs.of_protocol.Messages.{EndedResult}
-use Rattle.numbered.specs.of_protocol.Places.{answers_settled, answers_settled_by}
+use Rattle.numbered.specs.of_protocol.Locations.{answers_settled, answers_settled_by}
 use Rattle.numbered.specs.of_event_log.Entries.{Faulted}
 use Rattle.numbered.specs.of_protocol.Runs.{gives_slot_back}
 use Rattle.numbered.specs.of_protocol.Sets.{rest_of}

@@ -15,7 +15,7 @@ use Rattle.numbered.specs.of_protocol.Numbered.{changed_at, item_at}
 use Rattle.numbered.specs.of_protocol.Sets.{is_empty, repeated}
 use Rattle.numbered.specs.of_protocol.Steps.{changes, each_from, WorkerContext, is_own, object_at, own_id, own_object, with_run, with_task_of}
 use Rattle.numbered.specs.of_protocol.Tables.{AskedAt, AtRest, Beside, ByTask, Fetching, has_content, HasEnded, HasFaulted, is_nowhere, is_pending_task, is_same_id}
-use Rattle.numbered.specs.of_protocol.Tables.{is_waiting_for, is_whole, knows_dead, needed_by, new_object, new_task, Object, object_needed, Out, OwnTask, Phase, places_for}
+use Rattle.numbered.specs.of_protocol.Tables.{is_waiting_for, is_whole, knows_dead, needed_by, new_object, new_task, Object, object_needed, Out, OwnTask, Phase, locations_for}
 use Rattle.numbered.specs.of_protocol.Tables.{Progress, Ready, Execution, RunsOn, task_in, task_of, Waits, with_dead_holder, with_holder, with_task, Worker}
 use Rattle.numbered.specs.of_protocol.Runs.{hears_by, with_fetching, with_fetching_at, with_fetching_by}
 use Rattle.numbered.specs.of_protocol.Asking.{if_asked, stands_at}
@@ -99,11 +99,11 @@ pub task_now : (h : WorkerContext) (o : Id) (old task : OwnTask) → task_of (ob
 task_now h o old task e = let x = object_of h o old e in ap task_of (object_now h o (with_task task) x.0 x.1)
 
 -- what can be had has a place, or its owner keeps it
-pub some_places : (x : Object) → has_content x ≡ true → is_nowhere x ≡ false
-some_places x e = not-true (is_nowhere x) (and_right (is_whole x) (not (is_nowhere x)) e)
+pub some_locations : (x : Object) → has_content x ≡ true → is_nowhere x ≡ false
+some_locations x e = not-true (is_nowhere x) (and_right (is_whole x) (not (is_nowhere x)) e)
 
 -- so has what was just accepted
-pub somewhere : (n : ℕ) (kept : Option Outcome) → (is_empty (places_for n kept) && is_none kept) ≡ false
+pub somewhere : (n : ℕ) (kept : Option Outcome) → (is_empty (locations_for n kept) && is_none kept) ≡ false
 somewhere n None = refl
 somewhere n (Some c) = refl
 

@@ -17,10 +17,10 @@ use Rattle.numbered.specs.of_protocol.Holders.{sends_hold, unhold_reached}
 use Rattle.numbered.specs.of_protocol.Steps.{changes, each_from, each_result, WorkerContext, is_own, logs, logs_all, object_at, own_id, own_object, says, says_to_node, store_here}
 use Rattle.numbered.specs.of_protocol.Steps.{with_phase, with_run, with_store, with_task_of, with_there}
 use Rattle.numbered.specs.of_protocol.Sets.{fault}
-use Rattle.numbered.specs.of_protocol.Tables.{AskedAt, AtRest, chosen_place, Fetching, has_content, HasEnded, HasFaulted, holders_of, Holding}
+use Rattle.numbered.specs.of_protocol.Tables.{AskedAt, AtRest, chosen_location, Fetching, has_content, HasEnded, HasFaulted, holders_of, Holding}
 use Rattle.numbered.specs.of_protocol.Tables.{is_nowhere, is_waiting_for, is_wanted, knows_dead, needed_by, new_task, Object, Out, owner_of}
 use Rattle.numbered.specs.of_protocol.Tables.{OwnTask, Phase, Progress, put_object, Ready, released, Execution, RunsOn, settled_number, task_of, Waits}
-use Rattle.numbered.specs.of_protocol.Tables.{with_dead_holder, with_holder, with_place, without_holder, without_place, Worker}
+use Rattle.numbered.specs.of_protocol.Tables.{with_dead_holder, with_holder, with_location, without_holder, without_location, Worker}
 use Rattle.meaning.specs.Runs.{ids_from, next_id}
 use Rattle.numbered.specs.of_protocol.Runs.{faults, fetches, finished_ack_reached, gets, gives_slot_back, hears_by, is_heard}
 use Rattle.numbered.specs.of_protocol.Runs.{tells_stop, with_fetching}
@@ -28,19 +28,19 @@ use Rattle.numbered.specs.of_protocol.Asking.{answers_faulted, asks_next, begins
 use Rattle.numbered.specs.of_protocol.Asking.{faults_if_waiting, given_by, given_reached, if_asked, next_attempt, pushes, resolves_used, resolves_used_by, rests}
 use Rattle.numbered.specs.of_protocol.Asking.{uses_up, with_begun}
 use Rattle.numbered.specs.of_protocol.Recovery.{recovers}
-use Rattle.numbered.specs.of_protocol.Places.{adds_place, adds_place_by, adds_places, answered_here, answers_asker, answers_settled, answers_settled_by, answers_unsettled}
-use Rattle.numbered.specs.of_protocol.Places.{asker_by, at_answers, at_reached, copy_reached, finds_none, goes_to, hands_missing_on, lets_wait}
-use Rattle.numbered.specs.of_protocol.Places.{makes_copy_known, missing_from, missing_reached}
-use Rattle.numbered.specs.of_protocol.Places.{needs_own, needs_own_if_waiting, takes_place, takes_place_by}
-use Rattle.numbered.specs.of_protocol.Places.{tells_released, where_reached}
+use Rattle.numbered.specs.of_protocol.Locations.{adds_location, adds_location_by, adds_locations, answered_here, answers_asker, answers_settled, answers_settled_by, answers_unsettled}
+use Rattle.numbered.specs.of_protocol.Locations.{asker_by, at_answers, at_reached, copy_reached, finds_none, goes_to, hands_missing_on, lets_wait}
+use Rattle.numbered.specs.of_protocol.Locations.{makes_copy_known, missing_from, missing_reached}
+use Rattle.numbered.specs.of_protocol.Locations.{needs_own, needs_own_if_waiting, takes_location, takes_location_by}
+use Rattle.numbered.specs.of_protocol.Locations.{tells_released, where_reached}
 use Rattle.numbered.specs.of_protocol.Commits.{asks_where, bears, bears_all, bears_as, bears_put, bears_task, each_holds, keeps_content, keeps_contents, needs}
 use Rattle.numbered.specs.of_protocol.Commits.{next_id_here, rests_if_waiting, task_objects, with_objects}
 use Rattle.numbered.specs.of_protocol.Ends.{accepts, failed_by, failed_reached, fails, finished_by, finished_reached, hears_of_end, if_present, resolves_open}
 use Rattle.numbered.specs.of_protocol.Ends.{resolves_open_by}
 use Rattle.numbered.specs.of_protocol.Notices.{breaks_if, breaks_where, drops_holds, drops_holds_by, drops_stop, drops_stop_by, hears_of_node, hears_of_worker, is_unheard}
-use Rattle.numbered.specs.of_protocol.Notices.{loses_fetch, loses_fetch_at, loses_fetch_by, loses_fetch_of, loses_owner, loses_owner_of, loses_places, moves_ask}
+use Rattle.numbered.specs.of_protocol.Notices.{loses_fetch, loses_fetch_at, loses_fetch_by, loses_fetch_of, loses_owner, loses_owner_of, loses_locations, moves_ask}
 use Rattle.numbered.specs.of_protocol.Notices.{moves_ask_at, moves_asks, notice_node_step, notice_step, runs_on_node, runs_on_worker, with_dead_node, with_dead_worker}
-use Rattle.numbered.specs.of_protocol.Ticks.{asks_again, asks_place_again, sends_holds, sends_run, sends_stop, sends_task, sends_task_at, sends_tasks, tick_step}
+use Rattle.numbered.specs.of_protocol.Ticks.{asks_again, asks_location_again, sends_holds, sends_run, sends_stop, sends_task, sends_task_at, sends_tasks, tick_step}
 use Rattle.numbered.specs.of_protocol.Releases.{drops_copies, entries_made, going_with, lets_all_go, lets_go, lets_go_of, marks_released, may_release, release_pass}
 use Rattle.numbered.specs.of_protocol.Releases.{release_passes, release_step, releases_all, releases_by}
 use Rattle.numbered.specs.of_protocol.Deliveries.{reached, reached_from_node, reached_from_worker}
@@ -48,19 +48,19 @@ use Rattle.std.proofs.lemmas.Bool.{eqb-true, not-true}
 use Rattle.numbered.specs.of_event_log.Breaks.{Among}
 use Rattle.smallest_steps.specs.Steps.{IsRunning, Needs}
 use Rattle.smallest_steps.proofs.Known.{asked_where, each_held_task, fetching_foreign, hears_by-node, new_there, on_node, on_worker}
-use Rattle.smallest_steps.proofs.Known.{own_at, own_here, own_there, present_is, present_was, some_places, task_now, waiting}
+use Rattle.smallest_steps.proofs.Known.{own_at, own_here, own_there, present_is, present_was, some_locations, task_now, waiting}
 use Rattle.smallest_steps.proofs.Untouched.{asks_again-worker, sends_holds-worker, sends_tasks-worker}
 use Rattle.smallest_steps.proofs.Contents.{HasContent, others_stay, settled_rows}
 use Rattle.smallest_steps.proofs.Needing as N
 pub use Rattle.smallest_steps.proofs.Over.{each_from-kept, either, either_by, is_heard-kept, leaves_if_free-kept, settles-kept, tells_stop-kept}
-use Rattle.smallest_steps.proofs.Smallest.{AnyPlace, KeepsAccepted, KeepsAnswers, KeepsBirths, KeepsHeard, KeepsHere, KeepsNeeds}
+use Rattle.smallest_steps.proofs.Smallest.{AnyLocation, KeepsAccepted, KeepsAnswers, KeepsBirths, KeepsHeard, KeepsHere, KeepsNeeds}
 
--- ---- answers, places, deaths, ticks, releases
+-- ---- answers, locations, deaths, ticks, releases
 
 module _ {IsToldBy : ℕ → Attempt → Type 0} {IsPassedBy : Attempt → ℕ → ℕ → Type 0} {MayHold MayPush : Type 0} (P : WorkerContext → Type 0)
     (kept : KeepsHere IsToldBy IsPassedBy MayHold MayPush P) where
   -- an object is looked for, made again or answered
-  needing : KeepsNeeds AnyPlace P
+  needing : KeepsNeeds AnyLocation P
   needing = record {
     placed = λ h o f _ same p. kept.alike h o f same p;
     answered = kept.answered;
@@ -76,36 +76,36 @@ module _ {IsToldBy : ℕ → Attempt → Type 0} {IsPassedBy : Attempt → ℕ �
   }
 
   pub faults-kept : (h : WorkerContext) (f : Fault) → P h → P (faults h f)
-  faults-kept h f p = N.faults-kept P AnyPlace needing h f p
+  faults-kept h f p = N.faults-kept P AnyLocation needing h f p
 
   pub gets-kept : (h : WorkerContext) (c : Outcome) → P h → P (gets h c)
-  gets-kept h c p = N.gets-kept P AnyPlace needing h c p
+  gets-kept h c p = N.gets-kept P AnyLocation needing h c p
 
   pub with_fetching-kept : (h : WorkerContext) (f : Option Fetching) → P h → P (with_fetching h f)
-  with_fetching-kept h f p = N.with_fetching-kept P AnyPlace needing h f p
+  with_fetching-kept h f p = N.with_fetching-kept P AnyLocation needing h f p
 
   pub fetches-kept : (h : WorkerContext) (o : Id) (number n : ℕ) → P h → P (fetches h o number n)
-  fetches-kept h o number n p = N.fetches-kept P AnyPlace needing h o number n p
+  fetches-kept h o number n p = N.fetches-kept P AnyLocation needing h o number n p
 
   pub faults_if_waiting-kept : (h : WorkerContext) (o : Id) (f : Fault) → P h → P (faults_if_waiting h o f)
-  faults_if_waiting-kept h o f p = N.faults_if_waiting-kept P AnyPlace needing h o f p
+  faults_if_waiting-kept h o f p = N.faults_if_waiting-kept P AnyLocation needing h o f p
 
   pub answers_faulted-kept : (h : WorkerContext) (o : Id) → P h → P (answers_faulted h o)
-  answers_faulted-kept h o p = N.answers_faulted-kept P AnyPlace needing h o p
+  answers_faulted-kept h o p = N.answers_faulted-kept P AnyLocation needing h o p
 
   pub recovers-kept : (h : WorkerContext) (o : Id) → P h → P (recovers h o)
-  recovers-kept h o p = N.recovers-kept P AnyPlace needing h o p
+  recovers-kept h o p = N.recovers-kept P AnyLocation needing h o p
 
   pub needs_own-kept : (h : WorkerContext) (o : Id) → P h → P (needs_own h o)
-  needs_own-kept h o p = N.needs_own-kept P AnyPlace needing h o tt p
+  needs_own-kept h o p = N.needs_own-kept P AnyLocation needing h o tt p
 
   pub needs_own_if_waiting-kept : (h : WorkerContext) (o : Id) → P h → P (needs_own_if_waiting h o)
-  needs_own_if_waiting-kept h o p = N.needs_own_if_waiting-kept P AnyPlace needing h o tt p
+  needs_own_if_waiting-kept h o p = N.needs_own_if_waiting-kept P AnyLocation needing h o tt p
 
   -- of an object that has its content
   pub answers_settled-kept : (h : WorkerContext) (o : Id) (x : Object) → object_at h o ≡ Some x → is_nowhere x ≡ false → is_some x.settled ≡ true → P h →
       P (answers_settled h o)
-  answers_settled-kept h o x at some settled p = N.answers_settled-kept P AnyPlace needing h o x at some settled tt p
+  answers_settled-kept h o x at some settled p = N.answers_settled-kept P AnyLocation needing h o x at some settled tt p
 
   -- ---- the objects of a task, one after the other
 
@@ -174,7 +174,7 @@ module _ {IsToldBy : ℕ → Attempt → Type 0} {IsPassedBy : Attempt → ℕ �
 
   pub answers_asker-kept : (h : WorkerContext) (o : Id) (w : ℕ) (x : Object) (f : Option Fault) → P h → P (answers_asker h o w x f)
   answers_asker-kept h o w x None p =
-      either_by P (has_content x) _ _ (λ t. kept.place_told h w o (settled_number x) x.places x.kept (some_places x t) p)
+      either_by P (has_content x) _ _ (λ t. kept.place_told h w o (settled_number x) x.locations x.kept (some_locations x t) p)
       (λ _. answers_unsettled-kept h o w x p)
   answers_asker-kept h o w x (Some f) p = kept.gone_told h w o f p
 
@@ -185,23 +185,23 @@ module _ {IsToldBy : ℕ → Attempt → Type 0} {IsPassedBy : Attempt → ℕ �
   pub where_reached-kept : (h : WorkerContext) (w : ℕ) (o : Id) → P h → P (where_reached h w o)
   where_reached-kept h w o p = asker_by-kept h o w (object_at h o) p
 
-  pub adds_place_by-kept : (h : WorkerContext) (o : Id) (number n : ℕ) (x : Option Object) → P h → P (adds_place_by h o number n x)
-  adds_place_by-kept h o number n None p = p
-  adds_place_by-kept h o number n (Some x) p = either P _ _ _ (kept.alike h o (with_place n) (λ _. (refl, refl, refl, refl)) p) p
+  pub adds_location_by-kept : (h : WorkerContext) (o : Id) (number n : ℕ) (x : Option Object) → P h → P (adds_location_by h o number n x)
+  adds_location_by-kept h o number n None p = p
+  adds_location_by-kept h o number n (Some x) p = either P _ _ _ (kept.alike h o (with_location n) (λ _. (refl, refl, refl, refl)) p) p
 
-  pub adds_place-kept : (h : WorkerContext) (o : Id) (number n : ℕ) → P h → P (adds_place h o number n)
-  adds_place-kept h o number n p = adds_place_by-kept h o number n (object_at h o) p
+  pub adds_location-kept : (h : WorkerContext) (o : Id) (number n : ℕ) → P h → P (adds_location h o number n)
+  adds_location-kept h o number n p = adds_location_by-kept h o number n (object_at h o) p
 
-  pub adds_places-kept : (h : WorkerContext) (o : Id) (number : ℕ) (ns : List ℕ) → P h → P (adds_places h o number ns)
-  adds_places-kept h o number [] p = p
-  adds_places-kept h o number (n ∷ ns) p = adds_places-kept (adds_place h o number n) o number ns (adds_place-kept h o number n p)
+  pub adds_locations-kept : (h : WorkerContext) (o : Id) (number : ℕ) (ns : List ℕ) → P h → P (adds_locations h o number ns)
+  adds_locations-kept h o number [] p = p
+  adds_locations-kept h o number (n ∷ ns) p = adds_locations-kept (adds_location h o number n) o number ns (adds_location-kept h o number n p)
 
-  pub takes_place_by-kept : (h : WorkerContext) (o : Id) (number n : ℕ) (x : Option Object) → P h → P (takes_place_by h o number n x)
-  takes_place_by-kept h o number n None p = p
-  takes_place_by-kept h o number n (Some x) p = either P _ _ _ (kept.alike h o (without_place n) (λ _. (refl, refl, refl, refl)) p) p
+  pub takes_location_by-kept : (h : WorkerContext) (o : Id) (number n : ℕ) (x : Option Object) → P h → P (takes_location_by h o number n x)
+  takes_location_by-kept h o number n None p = p
+  takes_location_by-kept h o number n (Some x) p = either P _ _ _ (kept.alike h o (without_location n) (λ _. (refl, refl, refl, refl)) p) p
 
-  pub takes_place-kept : (h : WorkerContext) (o : Id) (number n : ℕ) → P h → P (takes_place h o number n)
-  takes_place-kept h o number n p = takes_place_by-kept h o number n (object_at h o) p
+  pub takes_location-kept : (h : WorkerContext) (o : Id) (number n : ℕ) → P h → P (takes_location h o number n)
+  takes_location-kept h o number n p = takes_location_by-kept h o number n (object_at h o) p
 
   pub finds_none-kept : (h : WorkerContext) (o : Id) (number n : ℕ) → is_own h o ≡ false → P h → P (finds_none h o number n)
   finds_none-kept h o number n foreign p = kept.missing_told _ o number n (fetching_foreign h o None foreign) (with_fetching-kept h None p)
@@ -216,15 +216,15 @@ module _ {IsToldBy : ℕ → Attempt → Type 0} {IsPassedBy : Attempt → ℕ �
       (either P _ _ _ (finds_none-kept h o number n foreign p) (fetches-kept h o number n p))
 
   pub at_answers-kept : (h : WorkerContext) (o : Id) (number : ℕ) (ns : List ℕ) (c : Option Outcome) → is_own h o ≡ false → P h → P (at_answers h o number ns c)
-  at_answers-kept h o number ns None foreign p = goes_to-kept h o number (chosen_place h.worker ns) foreign p
+  at_answers-kept h o number ns None foreign p = goes_to-kept h o number (chosen_location h.worker ns) foreign p
   at_answers-kept h o number ns (Some c) foreign p = gets-kept h c p
 
   pub at_reached-kept : (h : WorkerContext) (o : Id) (number : ℕ) (ns : List ℕ) (c : Option Outcome) → P h → P (at_reached h o number ns c)
-  at_reached-kept h o number ns c p = either_by P (is_own h o) _ _ (λ _. adds_places-kept h o number ns p)
+  at_reached-kept h o number ns c p = either_by P (is_own h o) _ _ (λ _. adds_locations-kept h o number ns p)
       (λ foreign. either P _ _ _ (at_answers-kept h o number ns c foreign p) p)
 
   pub makes_copy_known-kept : (h : WorkerContext) (o : Id) (number : ℕ) → P h → P (makes_copy_known h o number)
-  makes_copy_known-kept h o number p = either P _ _ _ (adds_place-kept h o number _ p) (kept.place_told h _ o number _ None refl p)
+  makes_copy_known-kept h o number p = either P _ _ _ (adds_location-kept h o number _ p) (kept.place_told h _ o number _ None refl p)
 
   pub copy_reached-kept : (h : WorkerContext) (o : Id) (number : ℕ) (c : Outcome) → P h → P (copy_reached h o number c)
   copy_reached-kept h o number c p = either P _ _ _ (gets-kept _ c (makes_copy_known-kept _ o number (kept.copied h o number c p))) p
@@ -238,7 +238,7 @@ module _ {IsToldBy : ℕ → Attempt → Type 0} {IsPassedBy : Attempt → ℕ �
   missing_from-kept h (TheNode n) o p = needs_own_if_waiting-kept h o p
 
   pub missing_reached-kept : (h : WorkerContext) (from : Endpoint) (o : Id) (number n : ℕ) → P h → P (missing_reached h from o number n)
-  missing_reached-kept h from o number n p = either_by P (is_own h o) _ _ (λ _. missing_from-kept _ from o (takes_place-kept h o number n p))
+  missing_reached-kept h from o number n p = either_by P (is_own h o) _ _ (λ _. missing_from-kept _ from o (takes_location-kept h o number n p))
       (λ foreign. hands_missing_on-kept h o number n foreign p)
 
   dead_holder-kept : (h : WorkerContext) (e o : Id) → P h → P (changes h o (with_dead_holder e))
@@ -385,7 +385,7 @@ module _ {IsToldBy : ℕ → Attempt → Type 0} {IsPassedBy : Attempt → ℕ �
   hears_of_node-kept h m dead p =
       let g : WorkerContext = breaks_where (runs_on_node m) (with_dead_node h m) in
       let first : P g = breaks_where-kept (runs_on_node m) (on_node m) (with_dead_node h m) (kept.node_dead h m p) in
-      loses_fetch-kept (moves_asks (loses_places g m) m) m (moves_asks-kept (loses_places g m) m dead (kept.places_lost g m first))
+      loses_fetch-kept (moves_asks (loses_locations g m) m) m (moves_asks-kept (loses_locations g m) m dead (kept.locations_lost g m first))
 
   pub notice_node_step-kept : (h : WorkerContext) (m : ℕ) → ((a : Attempt) (t : ℕ) → IsPassedBy a t m) → P h → P (notice_node_step h m)
   notice_node_step-kept h m dead p = either P _ _ _ p (hears_of_node-kept h m dead p)
@@ -404,12 +404,12 @@ module _ {IsToldBy : ℕ → Attempt → Type 0} {IsPassedBy : Attempt → ℕ �
   sends_tasks-kept h may p = each_from-kept P (λ g k. sends_task g k (task_of (own_object g k)))
       (λ g k q. sends_task-kept g k (task_of (own_object g k)) refl may q) h 1 (length h.worker.objects) p
 
-  pub asks_place_again-kept : (h : WorkerContext) (y : Id) (f : Option Fetching) → Needs h y → P h → P (asks_place_again h y f)
-  asks_place_again-kept h y None waits p = either_by P (is_own h y) _ _ (λ _. p) (λ foreign. kept.where_asked h y foreign waits p)
-  asks_place_again-kept h y (Some f) waits p = kept.copy_asked h _ _ _ p
+  pub asks_location_again-kept : (h : WorkerContext) (y : Id) (f : Option Fetching) → Needs h y → P h → P (asks_location_again h y f)
+  asks_location_again-kept h y None waits p = either_by P (is_own h y) _ _ (λ _. p) (λ foreign. kept.where_asked h y foreign waits p)
+  asks_location_again-kept h y (Some f) waits p = kept.copy_asked h _ _ _ p
 
   pub asks_again-kept : (h : WorkerContext) (run : Execution) (phase : Phase) → h.worker.run ≡ Some run → run.phase ≡ phase → P h → P (asks_again h phase)
-  asks_again-kept h run (Waits y f) e q p = asks_place_again-kept h y f (record { run = run; fetching = f; at = e; waits = q }) p
+  asks_again-kept h run (Waits y f) e q p = asks_location_again-kept h y f (record { run = run; fetching = f; at = e; waits = q }) p
   asks_again-kept h run Ready e q p = p
   asks_again-kept h run (Out j) e q p = p
   asks_again-kept h run (HasEnded d) e q p = p
@@ -460,7 +460,7 @@ module _ {IsToldBy : ℕ → Attempt → Type 0} {IsPassedBy : Attempt → ℕ �
 
   lets_all_go-kept : (h : WorkerContext) (e : Id) (x : Option Object) → P h → P (lets_all_go h e x)
   lets_all_go-kept h e None p = p
-  lets_all_go-kept h e (Some x) p = drops_copies-kept _ e x.ever (lets_go-kept h e x.ids p)
+  lets_all_go-kept h e (Some x) p = drops_copies-kept _ e x.all_locations (lets_go-kept h e x.ids p)
 
   marks_released-kept : (h : WorkerContext) (k n : ℕ) → P h → P (marks_released h k n)
   marks_released-kept h k n p =

@@ -6,25 +6,25 @@ use Rattle.numbered.specs.of_event_log.Entries.{Fault}
 use Rattle.numbered.specs.of_protocol.Messages.{At, Gone}
 use Rattle.numbered.specs.of_protocol.Stores.{copy_in}
 use Rattle.numbered.specs.of_protocol.Tables.{Beside, ByTask, Fetching, first_by, HasEnded, HasFaulted}
-use Rattle.numbered.specs.of_protocol.Tables.{is_nowhere, is_pending_task, live_place, ObjectSource, Object}
+use Rattle.numbered.specs.of_protocol.Tables.{is_nowhere, is_pending_task, live_location, ObjectSource, Object}
 use Rattle.numbered.specs.of_protocol.Tables.{Out, OwnTask, Phase, Ready, Execution, settled_number, task_by, task_in, task_of, Waits}
-use Rattle.numbered.specs.of_protocol.Tables.{WasPut, without_place, without_places}
+use Rattle.numbered.specs.of_protocol.Tables.{WasPut, without_location, without_locations}
 use Rattle.numbered.specs.of_protocol.Steps.{changes, WorkerContext, object_at, own_id, own_object, says, store_here}
 use Rattle.numbered.specs.of_protocol.Runs.{faults, faults_at, faults_by, fetches, gets, gets_at, gets_by}
 use Rattle.numbered.specs.of_protocol.Runs.{with_fetching, with_fetching_at, with_fetching_by}
 use Rattle.numbered.specs.of_protocol.Asking.{answers_faulted, answers_faulted_by, answers_gone}
 use Rattle.numbered.specs.of_protocol.Asking.{faults_if_waiting, next_attempt, tells_gone}
 use Rattle.numbered.specs.of_protocol.Recovery.{first_stop, gives_up, members, recovers, recovers_by, recovers_if_lost, remakes, remakes_by, remakes_one}
-use Rattle.numbered.specs.of_protocol.Places.{answers_settled, answers_settled_by}
-use Rattle.numbered.specs.of_protocol.Places.{looks_at_places}
-use Rattle.numbered.specs.of_protocol.Places.{looks_elsewhere, looks_elsewhere_by, looks_for, looks_for_by, looks_here_by}
-use Rattle.numbered.specs.of_protocol.Places.{needs_at, needs_by, needs_own, needs_own_if_waiting, needs_released, needs_unresolved}
-use Rattle.numbered.specs.of_protocol.Places.{tells_places}
+use Rattle.numbered.specs.of_protocol.Locations.{answers_settled, answers_settled_by}
+use Rattle.numbered.specs.of_protocol.Locations.{looks_at_locations}
+use Rattle.numbered.specs.of_protocol.Locations.{looks_elsewhere, looks_elsewhere_by, looks_for, looks_for_by, looks_here_by}
+use Rattle.numbered.specs.of_protocol.Locations.{needs_at, needs_by, needs_own, needs_own_if_waiting, needs_released, needs_unresolved}
+use Rattle.numbered.specs.of_protocol.Locations.{tells_locations}
 use Rattle.smallest_steps.proofs.Known.{own_there}
 use Rattle.smallest_steps.proofs.Over.{either}
 use Rattle.smallest_steps.proofs.Smallest.{KeepsNeeds}
 
-module _ (P : WorkerContext → Type 0) (MayPlace : Id → Type 0) (kept : KeepsNeeds MayPlace P) where
+module _ (P : WorkerContext → Type 0) (MayLocation : Id → Type 0) (kept : KeepsNeeds MayLocation P) where
   pub faults_at-kept : (h : WorkerContext) (run : Execution) (f : Fault) (phase : Phase) → h.worker.run ≡ Some run → run.phase ≡ phase → P h → P (faults_at h run f phase)
   faults_at-kept h run f (Waits y g) e q p = kept.faulted h run f y g e q p
   faults_at-kept h run f Ready e q p = p
@@ -122,59 +122,59 @@ module _ (P : WorkerContext → Type 0) (MayPlace : Id → Type 0) (kept : Keeps
   recovers_if_lost-kept : (h : WorkerContext) (o : Id) → P h → P (recovers_if_lost h o)
   recovers_if_lost-kept h o p = either P _ _ _ (recovers-kept h o p) p
 
-  pub looks_elsewhere_by-kept : (h : WorkerContext) (o : Id) (x : Object) (n : Option ℕ) → MayPlace o → P h → P (looks_elsewhere_by h o x n)
-  looks_elsewhere_by-kept h o x None may p = recovers_if_lost-kept _ o (kept.placed h o without_places may (λ _. (refl, refl, refl, refl)) p)
+  pub looks_elsewhere_by-kept : (h : WorkerContext) (o : Id) (x : Object) (n : Option ℕ) → MayLocation o → P h → P (looks_elsewhere_by h o x n)
+  looks_elsewhere_by-kept h o x None may p = recovers_if_lost-kept _ o (kept.placed h o without_locations may (λ _. (refl, refl, refl, refl)) p)
   looks_elsewhere_by-kept h o x (Some n) may p = fetches-kept h o _ n p
 
-  pub looks_elsewhere-kept : (h : WorkerContext) (o : Id) (x : Object) → MayPlace o → P h → P (looks_elsewhere h o x)
-  looks_elsewhere-kept h o x may p = looks_elsewhere_by-kept h o x (live_place h.worker x.places) may p
+  pub looks_elsewhere-kept : (h : WorkerContext) (o : Id) (x : Object) → MayLocation o → P h → P (looks_elsewhere h o x)
+  looks_elsewhere-kept h o x may p = looks_elsewhere_by-kept h o x (live_location h.worker x.locations) may p
 
-  pub looks_here_by-kept : (h : WorkerContext) (o : Id) (x : Object) (c : Option Outcome) → MayPlace o → P h → P (looks_here_by h o x c)
-  looks_here_by-kept h o x None may p = looks_elsewhere-kept (changes h o (without_place h.worker.node)) o (without_place h.worker.node x) may
-      (kept.placed h o (without_place h.worker.node) may (λ _. (refl, refl, refl, refl)) p)
+  pub looks_here_by-kept : (h : WorkerContext) (o : Id) (x : Object) (c : Option Outcome) → MayLocation o → P h → P (looks_here_by h o x c)
+  looks_here_by-kept h o x None may p = looks_elsewhere-kept (changes h o (without_location h.worker.node)) o (without_location h.worker.node x) may
+      (kept.placed h o (without_location h.worker.node) may (λ _. (refl, refl, refl, refl)) p)
   looks_here_by-kept h o x (Some c) may p = gets-kept _ c (kept.looked h o (settled_number x) p)
 
-  pub looks_at_places-kept : (h : WorkerContext) (o : Id) (x : Object) → MayPlace o → P h → P (looks_at_places h o x)
-  looks_at_places-kept h o x may p =
+  pub looks_at_locations-kept : (h : WorkerContext) (o : Id) (x : Object) → MayLocation o → P h → P (looks_at_locations h o x)
+  looks_at_locations-kept h o x may p =
       either P _ _ _ (looks_here_by-kept h o x (copy_in (store_here h) o (settled_number x)) may p) (looks_elsewhere-kept h o x may p)
 
-  pub looks_for_by-kept : (h : WorkerContext) (o : Id) (x : Object) (c : Option Outcome) → MayPlace o → P h → P (looks_for_by h o x c)
-  looks_for_by-kept h o x None may p = looks_at_places-kept h o x may p
+  pub looks_for_by-kept : (h : WorkerContext) (o : Id) (x : Object) (c : Option Outcome) → MayLocation o → P h → P (looks_for_by h o x c)
+  looks_for_by-kept h o x None may p = looks_at_locations-kept h o x may p
   looks_for_by-kept h o x (Some c) may p = gets-kept h c p
 
-  pub looks_for-kept : (h : WorkerContext) (o : Id) (x : Object) → MayPlace o → P h → P (looks_for h o x)
+  pub looks_for-kept : (h : WorkerContext) (o : Id) (x : Object) → MayLocation o → P h → P (looks_for h o x)
   looks_for-kept h o x may p = looks_for_by-kept h o x x.kept may p
 
   needs_released-kept : (h : WorkerContext) (e : Option Id) → P h → P (needs_released h e)
   needs_released-kept h None p = p
   needs_released-kept h (Some e) p = faults-kept h _ p
 
-  pub needs_unresolved-kept : (h : WorkerContext) (o : Id) (x : Object) → MayPlace o → P h → P (needs_unresolved h o x)
+  pub needs_unresolved-kept : (h : WorkerContext) (o : Id) (x : Object) → MayLocation o → P h → P (needs_unresolved h o x)
   needs_unresolved-kept h o x may p = either P _ _ _ (looks_for-kept h o x may p)
       (either P _ _ _ (recovers-kept h o p) (either P _ _ _ (needs_released-kept h x.dead_holder p) p))
 
-  pub needs_by-kept : (h : WorkerContext) (o : Id) (x : Object) (f : Option Fault) → MayPlace o → P h → P (needs_by h o x f)
+  pub needs_by-kept : (h : WorkerContext) (o : Id) (x : Object) (f : Option Fault) → MayLocation o → P h → P (needs_by h o x f)
   needs_by-kept h o x None may p = needs_unresolved-kept h o x may p
   needs_by-kept h o x (Some f) may p = faults-kept h f p
 
-  pub needs_at-kept : (h : WorkerContext) (o : Id) (x : Option Object) → MayPlace o → P h → P (needs_at h o x)
+  pub needs_at-kept : (h : WorkerContext) (o : Id) (x : Option Object) → MayLocation o → P h → P (needs_at h o x)
   needs_at-kept h o None may p = p
   needs_at-kept h o (Some x) may p = needs_by-kept h o x x.fault may p
 
-  pub needs_own-kept : (h : WorkerContext) (o : Id) → MayPlace o → P h → P (needs_own h o)
+  pub needs_own-kept : (h : WorkerContext) (o : Id) → MayLocation o → P h → P (needs_own h o)
   needs_own-kept h o may p = needs_at-kept _ o (object_at h o) may (with_fetching-kept h None p)
 
-  pub needs_own_if_waiting-kept : (h : WorkerContext) (o : Id) → MayPlace o → P h → P (needs_own_if_waiting h o)
+  pub needs_own_if_waiting-kept : (h : WorkerContext) (o : Id) → MayLocation o → P h → P (needs_own_if_waiting h o)
   needs_own_if_waiting-kept h o may p = either P _ _ _ (needs_own-kept h o may p) p
 
-  pub tells_places-kept : (h : WorkerContext) (ws : List ℕ) (o : Id) (x : Object) → is_nowhere x ≡ false → P h → P (tells_places h ws o x)
-  tells_places-kept h [] o x some p = p
-  tells_places-kept h (w ∷ ws) o x some p = tells_places-kept (says h w (At o (settled_number x) x.places x.kept)) ws o x some
-      (kept.place_told h w o (settled_number x) x.places x.kept some p)
+  pub tells_locations-kept : (h : WorkerContext) (ws : List ℕ) (o : Id) (x : Object) → is_nowhere x ≡ false → P h → P (tells_locations h ws o x)
+  tells_locations-kept h [] o x some p = p
+  tells_locations-kept h (w ∷ ws) o x some p = tells_locations-kept (says h w (At o (settled_number x) x.locations x.kept)) ws o x some
+      (kept.place_told h w o (settled_number x) x.locations x.kept some p)
 
   -- of an object that has its content
-  pub answers_settled-kept : (h : WorkerContext) (o : Id) (x : Object) → object_at h o ≡ Some x → is_nowhere x ≡ false → is_some x.settled ≡ true → MayPlace o → P h →
+  pub answers_settled-kept : (h : WorkerContext) (o : Id) (x : Object) → object_at h o ≡ Some x → is_nowhere x ≡ false → is_some x.settled ≡ true → MayLocation o → P h →
       P (answers_settled h o)
   answers_settled-kept h o x at some settled may p =
       subst (λ y. P (answers_settled_by h o y)) (sym at)
-      (needs_own_if_waiting-kept _ o may (tells_places-kept _ x.askers o x some (kept.answered h o x at (inl settled) p)))
+      (needs_own_if_waiting-kept _ o may (tells_locations-kept _ x.askers o x some (kept.answered h o x at (inl settled) p)))

@@ -11,7 +11,7 @@ use Rattle.numbered.specs.of_protocol.Steps.{each_result, WorkerContext, logs, o
 use Rattle.numbered.specs.of_protocol.Steps.{with_worker}
 use Rattle.numbered.specs.of_protocol.Runs.{asks_for_slot, gives_slot_back}
 use Rattle.numbered.specs.of_protocol.Asking.{answers_faulted, breaks, resolves_used, resolves_used_by, rests}
-use Rattle.numbered.specs.of_protocol.Places.{answers_settled, answers_settled_by, tells_places}
+use Rattle.numbered.specs.of_protocol.Locations.{answers_settled, answers_settled_by, tells_locations}
 use Rattle.numbered.specs.of_protocol.Commits.{asks_where, claim_by, claim_step, ends, stops_by}
 use Rattle.numbered.specs.of_protocol.Sets.{fault}
 use Rattle.numbered.specs.of_protocol.Jobs.{AtEnd, AtGet, Stopped}
@@ -56,7 +56,7 @@ module _ (P : WorkerContext → Type 0) (kept : KeepsPlainly P) where
     answered = λ h o x _ _ p. kept.worker h _ refl refl p;
     resolved = λ h o f p. kept.resolved _ o f (kept.worker h _ refl refl p);
     freed = kept.released;
-    places_lost = λ h m p. kept.worker h _ refl refl p;
+    locations_lost = λ h m p. kept.worker h _ refl refl p;
     worker_dead = λ h v p. kept.worker h _ refl refl p;
     node_dead = λ h m p. kept.worker h _ refl refl p;
     looked = kept.looked;
@@ -133,13 +133,13 @@ module _ (P : WorkerContext → Type 0) (kept : KeepsPlainly P) where
       (S.each_result-kept P keeps answers_faulted (S.answers_faulted-kept P keeps) (each_result resolves_used (with_task_of h o (rests task)) o task) o task
       (S.each_result-kept P keeps resolves_used resolves_used-kept (with_task_of h o (rests task)) o task (kept.worker h _ refl refl p)))
 
-  pub tells_places-kept : (h : WorkerContext) (ws : List ℕ) (o : Id) (x : Object) → P h → P (tells_places h ws o x)
-  tells_places-kept h [] o x p = p
-  tells_places-kept h (w ∷ ws) o x p = tells_places-kept (says h w (At o (settled_number x) x.places x.kept)) ws o x (kept.said h _ _ p)
+  pub tells_locations-kept : (h : WorkerContext) (ws : List ℕ) (o : Id) (x : Object) → P h → P (tells_locations h ws o x)
+  tells_locations-kept h [] o x p = p
+  tells_locations-kept h (w ∷ ws) o x p = tells_locations-kept (says h w (At o (settled_number x) x.locations x.kept)) ws o x (kept.said h _ _ p)
 
   answers_settled_by-kept : (h : WorkerContext) (o : Id) (x : Option Object) → P h → P (answers_settled_by h o x)
   answers_settled_by-kept h o None p = p
-  answers_settled_by-kept h o (Some x) p = S.needs_own_if_waiting-kept P keeps _ o (tells_places-kept _ x.askers o x (kept.worker h _ refl refl p))
+  answers_settled_by-kept h o (Some x) p = S.needs_own_if_waiting-kept P keeps _ o (tells_locations-kept _ x.askers o x (kept.worker h _ refl refl p))
 
   pub answers_settled-kept : (h : WorkerContext) (o : Id) → P h → P (answers_settled h o)
   answers_settled-kept h o p = answers_settled_by-kept h o (object_at h o) p

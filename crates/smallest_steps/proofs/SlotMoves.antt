@@ -24,7 +24,7 @@ module _ (Q : NodeContext → Type 0) (kept : KeepsSlots Q) where
   pub asked_by-kept : (h : NodeContext) (k : AskKey) (x : Option AskReply) → Q h → Q (asked_by h k x)
   asked_by-kept h k None p =
       either (has_free_slot h.node.scheduler) (gives_worker h k) (has_no_slot_for h k) (leases_idle-kept h k (least h.node.scheduler.idle) p)
-      (either (nat_lt (k.t + 1) h.nodes) (replies_anew h k (SentOn (next_in_circle h.nodes h.number))) (queues h k)
+      (either (nat_lt (k.hops + 1) h.nodes) (replies_anew h k (SentOn (next_in_circle h.nodes h.number))) (queues h k)
       (kept.replies _ k (SentOn (next_in_circle h.nodes h.number)) (kept.scheduler h _ p)) (kept.replies _ k Queued (kept.scheduler h _ p)))
   asked_by-kept h k (Some x) p = kept.replies h k x p
 
@@ -46,12 +46,12 @@ module _ (Q : NodeContext → Type 0) (kept : KeepsSlots Q) where
   pub frees-kept : (h : NodeContext) (w : ℕ) → Q h → Q (frees h w)
   frees-kept h w p =
       let g : NodeContext = with_scheduler h (without_slot h.node.scheduler w) in
-      either (has h.node.scheduler.holders w) (grants g) h (grants-kept g (kept.scheduler h _ p)) p
+      either (has h.node.scheduler.slot_holders w) (grants g) h (grants-kept g (kept.scheduler h _ p)) p
 
   pub asks_slot-kept : (h : NodeContext) (w : ℕ) → Q h → Q (asks_slot h w)
   asks_slot-kept h w p =
       let g : NodeContext = with_scheduler h (with_answered h.node.scheduler w) in
-      either (has h.node.scheduler.holders w || has h.node.scheduler.answered w) h (grants g) p (grants-kept g (kept.scheduler h _ p))
+      either (has h.node.scheduler.slot_holders w || has h.node.scheduler.answered w) h (grants g) p (grants-kept g (kept.scheduler h _ p))
 
   pub forgets-kept : (h : NodeContext) (w : ℕ) → Q h → Q (forgets h w)
   forgets-kept h w p = frees-kept (with_scheduler h (without_worker h.node.scheduler w)) w (kept.scheduler h _ p)

@@ -17,7 +17,7 @@ use Rattle.numbered.specs.of_protocol.Asking.{asks_at, elsewhere_reached, given_
 use Rattle.numbered.specs.of_protocol.Holders.{passes_on, with_holding}
 use Rattle.numbered.specs.of_protocol.Commits.{task_objects, with_objects}
 use Rattle.numbered.specs.of_protocol.Ends.{accepts, failed_reached, finished_reached}
-use Rattle.numbered.specs.of_protocol.Notices.{loses_places, with_dead_node, with_dead_worker}
+use Rattle.numbered.specs.of_protocol.Notices.{loses_locations, with_dead_node, with_dead_worker}
 use Rattle.std.specs.List.{filter}
 use Rattle.smallest_steps.specs.Steps.{IsNextOf, IsRunning, LeavesAlike, Needs}
 
@@ -37,13 +37,13 @@ AnyGiven n t a w = Unit {0}
 abbrev pub AnyHeard : WorkerContext → Endpoint → Message → Type 0
 AnyHeard h from m = Unit {0}
 
--- any object's places may change
-abbrev pub AnyPlace : Id → Type 0
-AnyPlace o = Unit {0}
+-- any object's locations may change
+abbrev pub AnyLocation : Id → Type 0
+AnyLocation o = Unit {0}
 
 -- the steps by which an object is looked for, made again or answered; MayPlace o: where known copies of o may come and go
-pub record KeepsNeeds (MayPlace : Id → Type 0) (P : WorkerContext → Type 0) : Type 0 where
-  pub placed : (h : WorkerContext) (o : Id) (f : Object → Object) → MayPlace o → LeavesAlike f → P h → P (changes h o f)
+pub record KeepsNeeds (MayLocation : Id → Type 0) (P : WorkerContext → Type 0) : Type 0 where
+  pub placed : (h : WorkerContext) (o : Id) (f : Object → Object) → MayLocation o → LeavesAlike f → P h → P (changes h o f)
   pub answered : (h : WorkerContext) (o : Id) (x : Object) → object_at h o ≡ Some x →
       (is_some x.settled ≡ true) ⊎ (is_some x.fault ≡ true) → P h → P (changes h o without_askers)
   pub resolved : (h : WorkerContext) (o : Id) (f : Fault) → P h → P (resolves h o f)
@@ -63,14 +63,14 @@ pub record KeepsNeeds (MayPlace : Id → Type 0) (P : WorkerContext → Type 0) 
 -- IsToldBy w a: worker w told that attempt a is over there. IsPassedBy a t n: node n passes ask t of attempt a on, or is dead. Where Holds and
 -- Pushes may go out again.
 pub record KeepsHere (IsToldBy : ℕ → Attempt → Type 0) (IsPassedBy : Attempt → ℕ → ℕ → Type 0) (MayHold MayPush : Type 0) (P : WorkerContext → Type 0) : Type 0 where
-  -- an own object is changed; places of copies are lost; a death is known; the node's store is looked at, or has one more copy
+  -- an own object is changed; locations of copies are lost; a death is known; the node's store is looked at, or has one more copy
   pub alike : (h : WorkerContext) (o : Id) (f : Object → Object) → LeavesAlike f → P h → P (changes h o f)
   pub asker : (h : WorkerContext) (o : Id) (w : ℕ) → P h → P (changes h o (with_asker w))
   pub answered : (h : WorkerContext) (o : Id) (x : Object) → object_at h o ≡ Some x →
       (is_some x.settled ≡ true) ⊎ (is_some x.fault ≡ true) → P h → P (changes h o without_askers)
   pub resolved : (h : WorkerContext) (o : Id) (f : Fault) → P h → P (resolves h o f)
   pub freed : (h : WorkerContext) (o : Id) → P h → P (logs h (Released o))
-  pub places_lost : (h : WorkerContext) (m : ℕ) → P h → P (loses_places h m)
+  pub locations_lost : (h : WorkerContext) (m : ℕ) → P h → P (loses_locations h m)
   pub worker_dead : (h : WorkerContext) (v : ℕ) → P h → P (with_dead_worker h v)
   pub node_dead : (h : WorkerContext) (m : ℕ) → P h → P (with_dead_node h m)
   pub looked : (h : WorkerContext) (o : Id) (number : ℕ) → P h → P (with_store h (looked_up (store_here h) o number))

@@ -25,8 +25,8 @@ node_head n x =
     codes "n"
     ++ (decimal n
     ++ (codes ": alive, "
-    ++ (decimal (length x.scheduler.holders) ++ (codes " of " ++ (decimal x.scheduler.slots ++ codes " slots taken")))))
-    ++ taken_note x.scheduler.holders
+    ++ (decimal (length x.scheduler.slot_holders) ++ (codes " of " ++ (decimal x.scheduler.slots ++ codes " slots taken")))))
+    ++ taken_note x.scheduler.slot_holders
     else (codes "n" ++ (decimal n ++ codes ": dead\n"))
 
 abbrev pub on_node_of : ℕ → ℕ → Option Worker → List ℕ

@@ -42,7 +42,7 @@ settled_note o (Beside serial) k = settled_by (first_of o serial) k
 
 -- the content is with the owner, or at a node
 abbrev pub is_somewhere : List ℕ → Option Outcome → Bool
-is_somewhere places (Some c) = true
+is_somewhere locations (Some c) = true
 is_somewhere [] None = false
 is_somewhere (n ∷ ns) None = true
 
@@ -51,7 +51,7 @@ found_text o x k somewhere = if somewhere then settled_note o x.source k else co
 
 abbrev pub rest_of : Id → Object → Option ℕ → List ℕ
 rest_of o x None = codes ", at rest\n"
-rest_of o x (Some k) = found_text o x k (is_somewhere x.places x.kept)
+rest_of o x (Some k) = found_text o x k (is_somewhere x.locations x.kept)
 
 -- no attempt is under way
 abbrev pub rest_text : Id → Object → List ℕ
@@ -68,7 +68,7 @@ comes_with o = codes ", comes with " ++ (object_text o ++ codes "\n")
 
 -- a further result whose content isn't there comes with the first, where an attempt is asked for or under way
 abbrev pub beside_state : Id → Object → Id → Bool → List ℕ
-beside_state o x first pending = if pending && not (is_somewhere x.places x.kept) then comes_with first else rest_text o x
+beside_state o x first pending = if pending && not (is_somewhere x.locations x.kept) then comes_with first else rest_text o x
 
 -- beside the objects of its owner
 abbrev pub made_state : List Object → Id → Object → ObjectSource → List ℕ
@@ -130,7 +130,7 @@ kept_line o (Some c) = object_text o ++ codes ": small, kept by its owner\n"
 unfoldable pub live_lines : List Entry → Worker → Id → Object → List ℕ
 live_lines log w o x =
     retries_line log o x.source
-    ++ (copies_line o x.places
+    ++ (copies_line o x.locations
     ++ (kept_line o x.kept
     ++ (holders_text log o x.removed x.added ++ (frame_line log w o x.bearer ++ askers_text o x.askers))))
 

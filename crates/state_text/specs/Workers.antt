@@ -25,7 +25,7 @@ node_at c n = from_one c.nodes n
 -- worker w has a slot of the node
 abbrev pub has_slot : ℕ → Option Node → Bool
 has_slot w None = false
-has_slot w (Some x) = list_any (λ v. v == w) x.scheduler.holders
+has_slot w (Some x) = list_any (λ v. v == w) x.scheduler.slot_holders
 
 -- the node may give it
 abbrev pub is_idle : ℕ → Option Node → Bool

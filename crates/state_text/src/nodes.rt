@@ -33,10 +33,10 @@ fn write_head(text: &mut String, number: usize, node: &Node) -> Result<(), Alloc
     if !node.is_live {
         return write!(text, "n{number}: dead\n");
     }
-    let taken = node.scheduler.holders.len();
+    let taken = node.scheduler.slot_holders.len();
     let slots = node.scheduler.slots;
     write!(text, "n{number}: alive, {taken} of {slots} slots taken")?;
-    write_taken(text, node.scheduler.holders.as_slice())
+    write_taken(text, node.scheduler.slot_holders.as_slice())
 }
 
 /// Writes the worker at that place, if it is on the node.

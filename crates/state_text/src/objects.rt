@@ -98,10 +98,10 @@ fn write_settled(
     }
 }
 
-fn is_somewhere(places: &[NodeId], kept: &Option<SharedContent>) -> bool
-    ensures { result ≡ is_somewhere places.now kept.now }
+fn is_somewhere(locations: &[NodeId], kept: &Option<SharedContent>) -> bool
+    ensures { result ≡ is_somewhere locations.now kept.now }
 {
-    kept.is_some() || !places.is_empty()
+    kept.is_some() || !locations.is_empty()
 }
 
 /// Writes how an object stands of which no attempt is under way.
@@ -111,7 +111,7 @@ fn write_rest(text: &mut String, object: ObjectId, row: &Object) -> Result<(), A
     let Some(number) = row.settled else {
         return text.push_str(", at rest\n");
     };
-    if !is_somewhere(row.places.as_slice(), &row.kept) {
+    if !is_somewhere(row.locations.as_slice(), &row.kept) {
         return text.push_str(", lost\n");
     }
     write_settled(text, object, &row.source, number)
@@ -147,7 +147,7 @@ fn write_beside(
 ) -> Result<(), AllocError>
     ensures { OnOk result (string_bytes text.new ≡ string_bytes text.old ++ beside_state object row.now first is_pending) }
 {
-    if is_pending && !is_somewhere(row.places.as_slice(), &row.kept) {
+    if is_pending && !is_somewhere(row.locations.as_slice(), &row.kept) {
         return write!(text, ", comes with {first}\n");
     }
     write_rest(text, object, row)
@@ -295,23 +295,27 @@ fn write_placed_head(text: &mut String, object: ObjectId) -> Result<(), AllocErr
     write!(text, "{object}: copies at")
 }
 
-fn write_placed(text: &mut String, object: ObjectId, places: &[NodeId]) -> Result<(), AllocError>
-    ensures { OnOk result (string_bytes text.new ≡ string_bytes text.old ++ placed_text object places.now) }
+fn write_placed(text: &mut String, object: ObjectId, locations: &[NodeId]) -> Result<(), AllocError>
+    ensures { OnOk result (string_bytes text.new ≡ string_bytes text.old ++ placed_text object locations.now) }
 {
     write_placed_head(text, object)?;
-    write_node_words(text, places)?;
+    write_node_words(text, locations)?;
     text.push_str("\n")?;
     Ok(())
 }
 
 /// Writes where the owner knows copies of the content.
-fn write_places(text: &mut String, object: ObjectId, places: &[NodeId]) -> Result<(), AllocError>
-    ensures { OnOk result (string_bytes text.new ≡ string_bytes text.old ++ copies_line object places.now) }
+fn write_locations(
+    text: &mut String,
+    object: ObjectId,
+    locations: &[NodeId],
+) -> Result<(), AllocError>
+    ensures { OnOk result (string_bytes text.new ≡ string_bytes text.old ++ copies_line object locations.now) }
 {
-    if places.is_empty() {
+    if locations.is_empty() {
         return Ok(());
     }
-    write_placed(text, object, places)
+    write_placed(text, object, locations)
 }
 
 /// Writes that the owner has the content, which is small.
@@ -343,7 +347,7 @@ fn write_live(
         (string_bytes text.new ≡ string_bytes text.old ++ live_lines log.now worker.now object row.now) }
 {
     write_retries(text, index, log, object, &row.source)?;
-    write_places(text, object, row.places.as_slice())?;
+    write_locations(text, object, row.locations.as_slice())?;
     write_kept(text, object, &row.kept)?;
     write_holders(alloc, text, index, log, object, row)?;
     write_frame(text, index, log, worker, object, row.bearer)?;

@@ -38,7 +38,7 @@ fn has_slot(whole: &ClusterState, node: NodeId, worker: WorkerId) -> bool
 {
     match node_at(whole, node) {
         None => false,
-        Some(found) => is_one(found.scheduler.holders.as_slice(), worker),
+        Some(found) => is_one(found.scheduler.slot_holders.as_slice(), worker),
     }
 }
 

@@ -18,7 +18,7 @@ fn home(rows: &[Row], worker: u32) -> u32
     0
 }
 
-/// The number of the node under which a endpoint's row stands: a worker's own node, or the node itself.
+/// The number of the node under which an endpoint's row stands: a worker's own node, or the node itself.
 pub fn process(rows: &[Row], endpoint: Endpoint) -> u32
     ensures { result ≡ process rows.now endpoint }
 {

@@ -207,7 +207,7 @@ link_or None other = other
 link_or (Some l) other = l
 
 abbrev pub taken_link : ClusterState → ℕ → List ℕ → Link
-taken_link c w holders = link_or (first_holder_link c holders) (kept_link w holders)
+taken_link c w slot_holders = link_or (first_holder_link c slot_holders) (kept_link w slot_holders)
 
 -- worker w, or what it asked, waits for a slot of the node
 unfoldable pub slot_link : ClusterState → ℕ → ℕ → Link

@@ -32,13 +32,13 @@ is_one w xs = list_any (λ v. v == w) xs
 -- who has a slot of the node
 abbrev pub holders_of : Option Node → List ℕ
 holders_of None = []
-holders_of (Some x) = x.scheduler.holders
+holders_of (Some x) = x.scheduler.slot_holders
 
 abbrev pub holders_at : ClusterState → ℕ → List ℕ
 holders_at c n = holders_of (node_at c n)
 
 abbrev pub is_ask_of : Attempt → ℕ → AskKey → Bool
-is_ask_of a t key = same_attempt key.attempt a && (key.t == t)
+is_ask_of a t key = same_attempt key.attempt a && (key.hops == t)
 
 -- the ask waits at the node for a slot
 abbrev pub is_queued : Attempt → ℕ → Option Node → Bool

@@ -93,14 +93,14 @@ pub fn holders_at(whole: &ClusterState, node: NodeId) -> &[WorkerId]
 {
     match node_at(whole, node) {
         None => &[],
-        Some(found) => found.scheduler.holders.as_slice(),
+        Some(found) => found.scheduler.slot_holders.as_slice(),
     }
 }
 
 fn is_ask_of(key: &AskKey, attempt: AttemptId, number: u32) -> bool
     ensures { result ≡ is_ask_of attempt number key.now }
 {
-    key.attempt.is(attempt) && key.t == number
+    key.attempt.is(attempt) && key.hops == number
 }
 
 fn has_ask(queue: &[AskKey], attempt: AttemptId, number: u32) -> bool

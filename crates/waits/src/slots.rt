@@ -44,10 +44,10 @@ fn holder_link(whole: &ClusterState, worker: WorkerId) -> Option<Link>
 }
 
 /// Of the first that comes to it.
-fn first_holder_link(whole: &ClusterState, holders: &[WorkerId]) -> Option<Link>
-    ensures { result ≡ first_holder_link whole.now holders.now }
+fn first_holder_link(whole: &ClusterState, slot_holders: &[WorkerId]) -> Option<Link>
+    ensures { result ≡ first_holder_link whole.now slot_holders.now }
 {
-    for worker in holders {
+    for worker in slot_holders {
         if let Some(link) = holder_link(whole, *worker) {
             return Some(link);
         }
@@ -55,13 +55,13 @@ fn first_holder_link(whole: &ClusterState, holders: &[WorkerId]) -> Option<Link>
     None
 }
 
-fn kept_link(worker: WorkerId, holders: &[WorkerId]) -> Link
-    ensures { result ≡ kept_link worker holders.now }
+fn kept_link(worker: WorkerId, slot_holders: &[WorkerId]) -> Link
+    ensures { result ≡ kept_link worker slot_holders.now }
 {
-    if holders.is_empty() {
+    if slot_holders.is_empty() {
         return Link::Resting(worker);
     }
-    Link::KeepsSlot(holders[0])
+    Link::KeepsSlot(slot_holders[0])
 }
 
 /// What keeps the node from having a free slot, for the worker or for what it asked there.
@@ -69,9 +69,9 @@ fn kept_link(worker: WorkerId, holders: &[WorkerId]) -> Link
 pub fn slot_link(whole: &ClusterState, worker: WorkerId, node: NodeId) -> Link
     ensures { result ≡ slot_link whole.now worker node }
 {
-    let holders = holders_at(whole, node);
-    match first_holder_link(whole, holders) {
-        None => kept_link(worker, holders),
+    let slot_holders = holders_at(whole, node);
+    match first_holder_link(whole, slot_holders) {
+        None => kept_link(worker, slot_holders),
         Some(link) => link,
     }
 }

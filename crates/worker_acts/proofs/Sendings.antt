@@ -5,7 +5,7 @@ use Rattle.event_log.specs.Words.{attempt}
 use Rattle.protocol.specs.Messages.{Ask, Hold, Push, Where}
 use Rattle.protocol.specs.Tables.{AskedAt, AtRest, Fetching, HasEnded, HasFaulted, Holding, Object, Out, OwnTask, Phase, Progress, Ready, RunsOn, Waits, task_of}
 use Rattle.protocol.specs.Steps.{WorkerContext, each_from, is_own, own_id, own_object, says}
-use Rattle.protocol.specs.Ticks.{asks_again, asks_place_again, sends_holds, sends_task, sends_task_at, sends_tasks}
+use Rattle.protocol.specs.Ticks.{asks_again, asks_location_again, sends_holds, sends_task, sends_task_at, sends_tasks}
 
 task_at_keeps : (h : WorkerContext) (o : Id) (task : OwnTask) (p : Progress) → (sends_task_at h o task p).worker ≡ h.worker
 task_at_keeps h o task AtRest = refl
@@ -27,7 +27,7 @@ place_keeps_if : (h : WorkerContext) (y : Id) (b : Bool) → (if b then h else s
 place_keeps_if h y true = refl
 place_keeps_if h y false = refl
 
-place_keeps : (h : WorkerContext) (y : Id) (f : Option Fetching) → (asks_place_again h y f).worker ≡ h.worker
+place_keeps : (h : WorkerContext) (y : Id) (f : Option Fetching) → (asks_location_again h y f).worker ≡ h.worker
 place_keeps h y None = place_keeps_if h y (is_own h y)
 place_keeps h y (Some f) = refl
 

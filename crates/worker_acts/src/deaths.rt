@@ -3,7 +3,7 @@
 ghost use Rattle.std.specs.Prelude.{◌≡◌, OnOk, Some, None};
 ghost use Rattle.protocol.specs.Notices.{hears_of_node, hears_of_worker, notice_node_step, notice_step};
 
-use crate::node_deaths::{add_dead_node, lose_fetch, lose_places, move_asks};
+use crate::node_deaths::{add_dead_node, lose_fetch, lose_locations, move_asks};
 use crate::runs_on::break_where;
 use crate::worker_deaths::{add_dead_worker, drop_holds, drop_stop, lose_owner};
 use ids::{NodeId, WorkerId};
@@ -48,7 +48,7 @@ fn hear_of_node(alloc: Global, here: &mut WorkerContext, node: NodeId) -> Result
 {
     add_dead_node(here, node)?;
     break_where(alloc, here, &Endpoint::TheNode(node))?;
-    lose_places(here, node);
+    lose_locations(here, node);
     move_asks(here, node)?;
     lose_fetch(alloc, here, node)
 }

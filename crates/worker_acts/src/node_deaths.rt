@@ -1,9 +1,9 @@
 // What the death of a node ends.
 
 ghost use Rattle.std.specs.Prelude.{◌≡◌, ◌==◌, ◌+◌, ◌-◌, ◌++◌, ◌∷◌, [], IfOk, OnOk, Some, None, map};
-ghost use Rattle.protocol.specs.Tables.{task_of, without_place};
+ghost use Rattle.protocol.specs.Tables.{task_of, without_location};
 ghost use Rattle.protocol.specs.Steps.{own_object};
-ghost use Rattle.protocol.specs.Notices.{loses_fetch, loses_places, moves_ask, moves_asks, with_dead_node};
+ghost use Rattle.protocol.specs.Notices.{loses_fetch, loses_locations, moves_ask, moves_asks, with_dead_node};
 
 use ids::{NodeId, ObjectId};
 use number_lists::{object_at_number, remove_node};
@@ -21,21 +21,21 @@ pub fn add_dead_node(here: &mut WorkerContext, node: NodeId) -> Result<(), Alloc
 
 /// None of the objects has a copy at the node.
 #[tactic(auto, using(crate::proofs::Losing::one_lost, crate::proofs::Losing::all_lost, crate::proofs::Losing::as_many))]
-fn lose_places_of(objects: &mut Objects, node: NodeId)
-    ensures { objects.new ≡ map (without_place node) objects.old }
+fn lose_locations_of(objects: &mut Objects, node: NodeId)
+    ensures { objects.new ≡ map (without_location node) objects.old }
 {
     let count = objects.len();
     for place in 0..count {
         let object = objects.row_mut(place);
-        remove_node(&mut object.places, node);
+        remove_node(&mut object.locations, node);
     }
 }
 
 /// No copy is known at the node any more.
-pub fn lose_places(here: &mut WorkerContext, node: NodeId)
-    ensures { here.new ≡ loses_places here.old node }
+pub fn lose_locations(here: &mut WorkerContext, node: NodeId)
+    ensures { here.new ≡ loses_locations here.old node }
 {
-    lose_places_of(&mut here.worker.objects, node);
+    lose_locations_of(&mut here.worker.objects, node);
 }
 
 /// The ask for that task, if it stands at the node, goes to the next node.

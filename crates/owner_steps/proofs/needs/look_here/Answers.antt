@@ -2,7 +2,7 @@ use Rattle.std.proofs.Common.{◌≡◌, OnOk, None, ap, subst, sym, ◌∙◌}
 use Rattle.std.specs.Prelude.{IfNone}
 use Rattle.protocol.specs.Stores.{copy_in}
 use Rattle.protocol.specs.Steps.{with_store}
-use Rattle.protocol.specs.Places.{looks_here_by}
+use Rattle.protocol.specs.Locations.{looks_here_by}
 use Rattle.owner_steps.proofs.needs.look_here.Goals as goal
 
 pub returns-in_default : goal.returns-in_default

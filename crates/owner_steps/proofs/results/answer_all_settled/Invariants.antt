@@ -1,5 +1,5 @@
 use Rattle.std.proofs.Common.{◌≡◌}
-use Rattle.protocol.specs.Places.{answers_settled}
+use Rattle.protocol.specs.Locations.{answers_settled}
 use Rattle.owner_steps.specs.Each.{each_own}
 use Rattle.owner_steps.proofs.results.answer_all_settled.Given as goal
 

@@ -107,7 +107,7 @@ WORDS = {
     15: "MissingReturn: A function's body may end without a return. The place is the function's name.",
     16: "BadRetries: A remote call asks for more than 10 retries. The place is the number.",
     17: "Duplicate: A name is given again while it is in scope. The place is the second name.",
-    18: "WrongReturns: A call has a function of another number of results, or another number of values is returned. The place is the function's name in the call, or the word return.",
+    18: "WrongReturns: A call or a return has another number of results than is asked for. The place is the function's name, or the word return.",
     40: "BadLine: A line of a file of events is no event, or the last line has no line feed. Lines are counted from 1.",
     42: "WrongJob: A claim gave another job than the line of a recorded history says. The file was recorded of another run.",
 }

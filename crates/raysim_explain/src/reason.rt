@@ -211,7 +211,7 @@ impl RefusalCause {
             RefusalCause::Duplicate =>
                 "A name is given again while it is in scope. The place is the second name.",
             RefusalCause::WrongReturns =>
-                "A call has a function of another number of results, or another number of values is returned. The place is the function's name in the call, or the word return.",
+                "A call or a return has another number of results than is asked for. The place is the function's name, or the word return.",
             RefusalCause::Pinned =>
                 "An evict of an object's primary copy: a node gives up secondary copies alone.",
             RefusalCause::NoCopy => "The node that an event names has no copy of the object.",

@@ -132,12 +132,12 @@ run_text log lines c a v =
     ++ (codes " began on "
     ++ (worker_text v ++ (when_last c.jobs lines log (Begins a) ++ (again_note (births log) lines log a ++ codes ".\n"))))
 
-abbrev pub party_text : Endpoint → List ℕ
-party_text (TheWorker w) = worker_text w
-party_text (TheNode n) = node_text n
+abbrev pub endpoint_name : Endpoint → List ℕ
+endpoint_name (TheWorker w) = worker_text w
+endpoint_name (TheNode n) = node_text n
 
 abbrev pub envelope_text : Envelope → List ℕ
-envelope_text l = codes " (" ++ (kind_text l.message ++ (codes ", from " ++ (party_text l.sender ++ (codes " to " ++ (party_text l.receiver ++ codes ")")))))
+envelope_text l = codes " (" ++ (kind_text l.message ++ (codes ", from " ++ (endpoint_name l.sender ++ (codes " to " ++ (endpoint_name l.receiver ++ codes ")")))))
 
 abbrev pub envelope_note : Option Envelope → List ℕ
 envelope_note None = []

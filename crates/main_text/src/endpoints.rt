@@ -3,7 +3,7 @@
 ghost use Rattle.std.specs.Prelude.{◌≡◌, ◌++◌, OnOk, string_bytes};
 ghost use Rattle.std.specs.List.{flat_map};
 ghost use Rattle.main_text.specs.Links.{node_text, other_text};
-ghost use Rattle.main_text.specs.Links.{party_text};
+ghost use Rattle.main_text.specs.Links.{endpoint_name};
 ghost use Rattle.main_text.specs.Links.{worker_text, workers_text};
 
 use ids::{AttemptId, NodeId, ObjectId, WorkerId};
@@ -66,7 +66,7 @@ pub fn write_workers(text: &mut String, workers: &[WorkerId]) -> Result<(), Allo
 
 /// Writes a worker or a node.
 pub fn write_endpoint(text: &mut String, endpoint: Endpoint) -> Result<(), AllocError>
-    ensures { OnOk result (string_bytes text.new ≡ string_bytes text.old ++ party_text endpoint) }
+    ensures { OnOk result (string_bytes text.new ≡ string_bytes text.old ++ endpoint_name endpoint) }
 {
     match endpoint {
         Endpoint::TheWorker(worker) => write_worker(text, worker),

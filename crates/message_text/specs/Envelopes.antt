@@ -3,11 +3,11 @@ use Rattle.std.specs.Prelude.{ℕ, ◌+◌, List, [], ◌∷◌, ◌++◌, codes
 use Rattle.std.specs.Fmt.{decimal}
 use Rattle.log_words.specs.declared.contents.Contents.{Contents}
 use Rattle.protocol_data.specs.declared.message.Envelope.{Envelope}
-use Rattle.message_text.specs.Messages.{party_text, message_text}
+use Rattle.message_text.specs.Messages.{endpoint_name, message_text}
 
 abbrev pub envelope_head : ℕ → Envelope → List ℕ
 envelope_head k l =
-    codes "    " ++ (party_text l.sender ++ (codes " sends message " ++ (decimal k ++ (codes " to " ++ (party_text l.receiver ++ codes ": ")))))
+    codes "    " ++ (endpoint_name l.sender ++ (codes " sends message " ++ (decimal k ++ (codes " to " ++ (endpoint_name l.receiver ++ codes ": ")))))
 
 -- w1 sends message 3 to w2: Push(a1.1#0, remote(3) sq(7))
 abbrev pub envelope_line : Contents → ℕ → Envelope → List ℕ

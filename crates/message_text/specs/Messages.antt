@@ -19,9 +19,9 @@ use Rattle.protocol_data.specs.declared.message.Reason.{Reason}
 use Rattle.protocol_data.specs.declared.message.Reason.TheVariants.{WasReleased, OwnerIsDead}
 
 -- w2, or n1
-abbrev pub party_text : Endpoint → List ℕ
-party_text (TheWorker w) = codes "w" ++ decimal w
-party_text (TheNode n) = codes "n" ++ decimal n
+abbrev pub endpoint_name : Endpoint → List ℕ
+endpoint_name (TheWorker w) = codes "w" ++ decimal w
+endpoint_name (TheNode n) = codes "n" ++ decimal n
 
 -- a node behind the first
 abbrev pub other_node : ℕ → List ℕ

@@ -3,9 +3,9 @@
 ghost use Rattle.std.specs.Prelude.{◌≡◌, ◌+◌, ◌<◌, ◌^◌, IfOk, drop, string_bytes};
 ghost use Rattle.event_log.specs.Events.{refused_next};
 ghost use Rattle.event_files.specs.Recorded.{recorded_file};
-ghost use Rattle.histories.specs.Recorded.{claims_behind, given_by, recorded_in};
+ghost use Rattle.event_files.specs.LogHistory.{claims_behind, given_by, recorded_in};
 
-use event_files::{RecordedEvent, print_recorded};
+use crate::recorded::{RecordedEvent, print_recorded};
 use log_entries::{Entry, Event};
 use std::alloc::{AllocError, Global};
 

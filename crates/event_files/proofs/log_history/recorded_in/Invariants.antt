@@ -1,6 +1,6 @@
 use Rattle.std.proofs.Common.{◌≡◌, ◌≤◌, ◌++◌, drop}
-use Rattle.histories.specs.Recorded.{recorded_from, recorded_in}
-use Rattle.histories.proofs.recorded.recorded_in.Given as goal
+use Rattle.event_files.specs.LogHistory.{recorded_from, recorded_in}
+use Rattle.event_files.proofs.log_history.recorded_in.Given as goal
 
 -- the events so far with those of the rest of the log; and no more claims came than entries
 abbrev pub invariant-loop-place : goal.invariant-loop-place

@@ -7,8 +7,8 @@ use Rattle.meaning.specs.Law.{prints_of}
 use Rattle.meaning.specs.Meaning.{serial_run}
 use Rattle.script_laws.proofs.Safety.{are_safe}
 use Rattle.script_check.specs.Trees.{script_of}
-use Rattle.serial.proofs.Main.{main_is_safe, not_broken, number_is_task, prints_are_tasks}
-use Rattle.serial.proofs.run.run_serial.Goals as goal
+use Rattle.evaluation.proofs.Main.{main_is_safe, not_broken, number_is_task, prints_are_tasks}
+use Rattle.evaluation.proofs.serial_run.run_serial.Goals as goal
 
 pub unreachable-requires : goal.unreachable-requires
 unreachable-requires c =

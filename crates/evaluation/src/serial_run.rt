@@ -8,7 +8,8 @@ ghost use Rattle.meaning.specs.Law.{prints_of};
 ghost use Rattle.script_check.specs.Trees.{script_of};
 ghost use Rattle.values.specs.Values.{content_of, value_of};
 
-use evaluation::{NoMemory, SerialError, SerialRun, run_serially};
+use crate::no_memory::NoMemory;
+use crate::serial::{SerialError, SerialRun, run_serially};
 use script_check::Checked;
 use std::alloc::Global;
 

@@ -90,8 +90,8 @@ CHAPTERS = [
 ROOTS = [
     ("What the commands promise in addition", ["script_commands", "run_commands", "raysim_commands", "raysim_streams", "raysim_options", "raysim_files"]),
     ("What a run and its parts promise in addition",
-     ["protocol_board", "protocol_core", "seats", "report_text", "segment", "serial", "script_check", "script_syntax", "script_tokens",
-      "event_files", "report_json", "log_text", "message_text", "story_text", "why_text", "waits", "main_text", "lineage_text", "timeline", "page_text", "engine_text", "lineage",
+     ["protocol_board", "protocol_core", "seats", "report_text", "segment", "evaluation", "script_check", "script_syntax", "script_tokens",
+      "event_files", "report_json", "log_text", "message_text", "why_text", "waits", "main_text", "lineage_text", "timeline", "page_text", "engine_text", "lineage",
       "lease", "object_store", "borrow"]),
     ("What the laws say in addition", ["meaning", "script_laws", "event_log", "meaning_laws", "kind_laws", "report_laws", "protocol_laws", "owed_laws"]),
 ]

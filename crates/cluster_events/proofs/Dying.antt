@@ -2,9 +2,9 @@
 use Rattle.std.proofs.Common.{◌≡◌, ◌≤◌, ◌<◌, ℕ, ◌+◌, Bool, true, false, List, [], ◌∷◌, ◌++◌, length, map, Some, None, refl, sym, ap, ◌∙◌, arith}
 use Rattle.std.specs.Prelude.{◌&&◌, nat_lt, slice_get}
 use Rattle.std.proofs.lemmas.Bool.Decides.{nat_tests}
-use Rattle.limit_laws.specs.Limits.{entries_limited, is_within, whole_limited}
-use Rattle.limit_laws.specs.Opens.{fits, opened_by_death}
-use Rattle.limit_laws.proofs.Taken.{died_stays, died_taken, refused_entries, refused_whole, taken_entries, taken_whole}
+use Rattle.step_laws.specs.Limits.{entries_limited, is_within, whole_limited}
+use Rattle.step_laws.specs.Opens.{fits, opened_by_death}
+use Rattle.step_laws.proofs.Taken.{died_stays, died_taken, refused_entries, refused_whole, taken_entries, taken_whole}
 use Rattle.number_lists.proofs.Places.{item_there}
 use Rattle.protocol.specs.Events.{dead, dead_node, dies_with, joined, killed, killed_by, node_killed, store_does}
 use Rattle.protocol.specs.Nodes.{new_node}

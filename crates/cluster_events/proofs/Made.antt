@@ -2,10 +2,10 @@
 use Rattle.std.proofs.Common.{◌≡◌, ◌≤◌, ℕ, ◌+◌, Bool, true, false, length, Some, None, refl, ap, ◌∙◌, arith}
 use Rattle.std.specs.Prelude.{◌&&◌, nat_lt}
 use Rattle.std.proofs.lemmas.Bool.Decides.{nat_tests}
-use Rattle.limit_laws.specs.Later.{counted}
-use Rattle.limit_laws.specs.Limits.{entries_limited, is_within, whole_limited}
-use Rattle.limit_laws.proofs.Later.{made_kept}
-use Rattle.limit_laws.proofs.Taken.{refused_entries, refused_whole}
+use Rattle.step_laws.specs.Later.{counted}
+use Rattle.step_laws.specs.Limits.{entries_limited, is_within, whole_limited}
+use Rattle.step_laws.proofs.Later.{made_kept}
+use Rattle.step_laws.proofs.Taken.{refused_entries, refused_whole}
 use Rattle.protocol.specs.Commits.{commit_step}
 use Rattle.protocol.specs.Events.{as_committed, committed, committed_by, objects_made}
 use Rattle.protocol.specs.Jobs.{JobRecord, OfJob, Outcomes}

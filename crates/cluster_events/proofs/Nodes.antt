@@ -1,8 +1,8 @@
 -- Events leave the number of objects, but for commits; and what is changed in place.
 use Rattle.std.proofs.Common.{◌≡◌, ℕ, zero, suc, ◌+◌, List, [], ◌∷◌, length, Option, Some, None, refl, ap, ◌∙◌, arith}
 use Rattle.std.specs.Prelude.{slice_get, slice_set}
-use Rattle.limit_laws.specs.Limits.{entries_limited, entries_within, whole_limited, whole_within}
-use Rattle.limit_laws.proofs.Later.{made_kept}
+use Rattle.step_laws.specs.Limits.{entries_limited, entries_within, whole_limited, whole_within}
+use Rattle.step_laws.proofs.Later.{made_kept}
 use Rattle.protocol.specs.Nodes.{Node, NodeContext}
 use Rattle.protocol.specs.Numbered.{changed_at, changed_by, item_at}
 use Rattle.protocol.specs.Steps.{WorkerContext}

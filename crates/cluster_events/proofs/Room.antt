@@ -2,12 +2,12 @@
 use Rattle.std.proofs.Common.{◌≡◌, ◌≤◌, ◌<◌, ℕ, ◌+◌, Bool, true, false, length, Option, Some, None, refl, ap, ◌∙◌, arith}
 use Rattle.std.specs.Prelude.{◌&&◌, nat_lt}
 use Rattle.std.proofs.lemmas.Bool.Decides.{nat_tests}
-use Rattle.limit_laws.specs.Limits.{is_within}
-use Rattle.limit_laws.specs.Opens.{fits}
-use Rattle.limit_laws.proofs.Counts.{worker_counts}
-use Rattle.opening_laws.proofs.Committing.{commit_opens}
-use Rattle.opening_laws.proofs.OneOpens.{claim_opens, notice_node_opens, notice_opens, reached_opens, tick_opens}
-use Rattle.opening_laws.proofs.Releasing.{release_opens_none}
+use Rattle.step_laws.specs.Limits.{is_within}
+use Rattle.step_laws.specs.Opens.{fits}
+use Rattle.step_laws.proofs.Counts.{worker_counts}
+use Rattle.step_laws.proofs.Committing.{commit_opens}
+use Rattle.step_laws.proofs.OneOpens.{claim_opens, notice_node_opens, notice_opens, reached_opens, tick_opens}
+use Rattle.step_laws.proofs.Releasing.{release_opens_none}
 use Rattle.protocol.specs.Nodes.{Node}
 use Rattle.protocol.specs.Releases.{release_step}
 use Rattle.protocol.specs.Steps.{WorkerContext}

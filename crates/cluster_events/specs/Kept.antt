@@ -1,6 +1,6 @@
 -- What is kept of a worker and its node, for an event that may be refused while it is applied.
 use Rattle.std.specs.Prelude.{◌≡◌, Some, slice_get, slice_set, ℕ}
-use Rattle.limit_laws.specs.Limits.{whole_within}
+use Rattle.step_laws.specs.Limits.{whole_within}
 use Rattle.protocol.specs.Nodes.{new_node}
 use Rattle.protocol.specs.Steps.{WorkerContext}
 use Rattle.protocol.specs.Tables.{new_worker}

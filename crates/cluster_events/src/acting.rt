@@ -1,7 +1,7 @@
 // Workers that do their part in an event.
 
 ghost use Rattle.std.specs.Prelude.{◌≡◌, ◌<◌, ◌+◌, IfOk, OnOk, Some, length, slice_get, slice_set};
-ghost use Rattle.limit_laws.specs.Limits.{entries_within, whole_within};
+ghost use Rattle.step_laws.specs.Limits.{entries_within, whole_within};
 ghost use Rattle.protocol.specs.Cluster.{after_worker, worker_does};
 ghost use Rattle.protocol_data.specs.declared.cluster_state.ClusterState.{ClusterState};
 ghost use Rattle.worker_acts.specs.Acts.{act_step};

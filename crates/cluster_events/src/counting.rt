@@ -3,8 +3,8 @@
 ghost use Rattle.std.specs.Prelude.{◌≡◌, ◌+◌, IfOk, length, nat_lt};
 ghost use Rattle.protocol.specs.Sets.{without_number};
 ghost use Rattle.protocol.specs.Cluster.{moved, node_at};
-ghost use Rattle.limit_laws.specs.Limits.{entries_within};
-ghost use Rattle.limit_laws.specs.Opens.{asked_opens, death_opens, fits, opened_at, opened_by_death, reached_opens};
+ghost use Rattle.step_laws.specs.Limits.{entries_within};
+ghost use Rattle.step_laws.specs.Opens.{asked_opens, death_opens, fits, opened_at, opened_by_death, reached_opens};
 
 use ids::{NodeId, WorkerId};
 use lease::{has_free_slot, reply_to};

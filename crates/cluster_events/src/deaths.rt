@@ -1,7 +1,7 @@
 // Workers and nodes that die, and nodes that come.
 
 ghost use Rattle.std.specs.Prelude.{◌≡◌, ◌<◌, ◌+◌, IfOk, OnOk, length, map};
-ghost use Rattle.limit_laws.specs.Limits.{entries_limited, whole_limited};
+ghost use Rattle.step_laws.specs.Limits.{entries_limited, whole_limited};
 ghost use Rattle.protocol.specs.Events.{dead, dead_node, dies_with, joined, killed, node_killed};
 ghost use Rattle.protocol.specs.Numbered.{changed_at};
 

@@ -1,8 +1,8 @@
 // Deliveries as changes of the whole run: a message reaches its receiver, if that lives.
 
 ghost use Rattle.std.specs.Prelude.{◌≡◌, IfOk, OnOk};
-ghost use Rattle.limit_laws.specs.Later.{marked};
-ghost use Rattle.limit_laws.specs.Limits.{entries_limited, whole_limited};
+ghost use Rattle.step_laws.specs.Later.{marked};
+ghost use Rattle.step_laws.specs.Limits.{entries_limited, whole_limited};
 ghost use Rattle.protocol.specs.Events.{delivered, delivered_to};
 
 use crate::counting::nothing;
@@ -71,7 +71,7 @@ fn hand_over(
 }
 
 /// The message at the place was delivered.
-#[tactic(auto, using(limit_laws::proofs::Later::marked_past))]
+#[tactic(auto, using(step_laws::proofs::Later::marked_past))]
 fn mark(whole: &mut ClusterState, place: usize)
     ensures { whole.new ≡ marked place whole.old }
 {

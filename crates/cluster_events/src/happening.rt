@@ -1,7 +1,7 @@
 // One event, where nothing refuses it beforehand.
 
 ghost use Rattle.std.specs.Prelude.{◌≡◌, IfOk, OnOk};
-ghost use Rattle.limit_laws.specs.Limits.{entries_limited, whole_limited};
+ghost use Rattle.step_laws.specs.Limits.{entries_limited, whole_limited};
 ghost use Rattle.protocol.specs.Events.{happens};
 
 use crate::deaths::{join, kill, kill_node};

@@ -1,7 +1,7 @@
 // Claims, which give out a job, and commits, which hand one in, as changes of the whole run.
 
 ghost use Rattle.std.specs.Prelude.{◌≡◌, ◌<◌, ◌+◌, ◌++◌, ◌∷◌, [], IfOk, OnOk, false, length};
-ghost use Rattle.limit_laws.specs.Limits.{entries_limited, whole_limited};
+ghost use Rattle.step_laws.specs.Limits.{entries_limited, whole_limited};
 ghost use Rattle.protocol.specs.Events.{as_committed, claimed, committed};
 ghost use Rattle.protocol.specs.Jobs.{OfJob};
 ghost use Rattle.protocol.specs.Numbered.{changed_at};

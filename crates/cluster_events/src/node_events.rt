@@ -1,7 +1,7 @@
 // Events of nodes, which are refused where they would open one worker too many.
 
 ghost use Rattle.std.specs.Prelude.{◌≡◌, IfOk, OnOk};
-ghost use Rattle.limit_laws.specs.Limits.{entries_within, whole_within};
+ghost use Rattle.step_laws.specs.Limits.{entries_within, whole_within};
 ghost use Rattle.protocol.specs.Slots.{node_reached};
 ghost use Rattle.protocol.specs.Cluster.{node_does};
 

@@ -1,7 +1,7 @@
 // Copies that are evicted or lost.
 
 ghost use Rattle.std.specs.Prelude.{◌≡◌, ◌<◌, ◌+◌, IfOk, OnOk, length};
-ghost use Rattle.limit_laws.specs.Limits.{entries_limited, whole_limited};
+ghost use Rattle.step_laws.specs.Limits.{entries_limited, whole_limited};
 ghost use Rattle.protocol.specs.Events.{store_does};
 ghost use Rattle.protocol.specs.Numbered.{changed_at};
 ghost use Rattle.cluster_events.specs.Losses.{behind};

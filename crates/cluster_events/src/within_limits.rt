@@ -1,7 +1,7 @@
 // Events of workers, which are refused where they would pass a limit.
 
 ghost use Rattle.std.specs.Prelude.{◌≡◌, IfOk, OnOk};
-ghost use Rattle.limit_laws.specs.Limits.{entries_limited, entries_within, whole_limited, whole_within};
+ghost use Rattle.step_laws.specs.Limits.{entries_limited, entries_within, whole_limited, whole_within};
 ghost use Rattle.protocol.specs.Cluster.{worker_does};
 ghost use Rattle.worker_acts.specs.Acts.{act_step};
 

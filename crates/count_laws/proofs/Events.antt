@@ -8,12 +8,12 @@ use Rattle.event_log.specs.Entries.{Claim, Commit, Deliver, Entry, Event, Evict,
 use Rattle.event_log.specs.Entries.{Refusal, NoJob, Stale}
 use Rattle.event_log.specs.Rules.{Setting}
 use Rattle.event_log.specs.Words.{born_in, opened}
-use Rattle.limit_laws.specs.Opens.{one_if}
-use Rattle.limit_laws.proofs.Openings.{death_open, reached_open}
-use Rattle.numbered.proofs.Lists.{changed-length}
-use Rattle.opening_laws.proofs.Committing.{commit_opens}
-use Rattle.opening_laws.proofs.OneOpens.{claim_opens, notice_node_opens, notice_opens, reached_opens, tick_opens}
-use Rattle.opening_laws.proofs.Releasing.{release_opens_none}
+use Rattle.step_laws.specs.Opens.{one_if}
+use Rattle.step_laws.proofs.Openings.{death_open, reached_open}
+use Rattle.step_laws.proofs.Lists.{changed-length}
+use Rattle.step_laws.proofs.Committing.{commit_opens}
+use Rattle.step_laws.proofs.OneOpens.{claim_opens, notice_node_opens, notice_opens, reached_opens, tick_opens}
+use Rattle.step_laws.proofs.Releasing.{release_opens_none}
 use Rattle.protocol.specs.Commits.{claim_by, claim_step, commit_step}
 use Rattle.protocol.specs.Deliveries.{reached}
 use Rattle.protocol.specs.Events.{committed_by, dead, delivered_by, delivered_to, dies_with, happens, is_live_node, is_live_worker, killed_by, with_committed}

@@ -8,10 +8,10 @@ ghost use Rattle.endpoint_text.specs.Nodes.{seen_of, site_of};
 
 use ids::{AttemptId, NodeId};
 use log_entries::{Entry, Event};
+use log_text::{node_of, opened};
 use log_words::is_refusal_at;
 use main_text::write_node;
 use std::alloc::{AllocError, Global};
-use story_text::{node_of, opened};
 use why_text::{Moment, is_node, write_when};
 
 /// A node, the numbers of the nodes of all workers, the attempts that ran on its workers, and how many nodes there are in all.

@@ -16,11 +16,11 @@ use crate::sites::{Site, write_first_note};
 use crate::workers::{Subject, write_owned, write_worker_sentence};
 use ids::{NodeId, WorkerId};
 use log_entries::Entry;
+use log_text::{node_of, opened};
 use log_words::{BirthIndex, Contents, is_refusal_at};
 use main_text::{write_node, write_worker};
 use protocol_data::{ClusterState, Envelope};
 use std::alloc::{AllocError, Global};
-use story_text::{node_of, opened};
 use waits::node_at;
 use why_text::Moment;
 

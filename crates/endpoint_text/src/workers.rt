@@ -10,11 +10,11 @@ use crate::deaths::{ran_on, write_death, write_death_with, write_opened};
 use crate::lists::{is_one_of, write_ids};
 use ids::{AttemptId, ObjectId, WorkerId};
 use log_entries::{Entry, Event};
+use log_text::{node_of, opened};
 use log_words::{BirthIndex, Contents, add_objects};
 use main_text::write_worker;
 use protocol_data::Envelope;
 use std::alloc::{AllocError, Global};
-use story_text::{node_of, opened};
 use why_text::{
     Moment, is_killed_in, is_node, write_accepted, write_began, write_ended, write_faulted,
     write_given_up, write_node_notice, write_notice,

@@ -1,4 +1,5 @@
 pub mod Conversions
+pub mod Main
 pub mod Results
 pub mod Standing
 pub mod TaskRuns

@@ -3,7 +3,7 @@ use Rattle.std.proofs.Common.{◌≡◌, Bool, true, false, List, Option, Some, 
 use Rattle.std.specs.Prelude.{if◌then◌else◌}
 use Rattle.event_log.specs.Entries.{Entry, Event}
 use Rattle.event_log.specs.Entries.{Refusal, Limit}
-use Rattle.limit_laws.specs.Limits.{entries_limited, whole_limited}
+use Rattle.step_laws.specs.Limits.{entries_limited, whole_limited}
 use Rattle.protocol.specs.Answers.{Refuses, answer, decided, given_out, takes, whole_after}
 use Rattle.protocol.specs.Events.{happens}
 use Rattle.protocol.specs.Jobs.{CommitInput, Job}

@@ -6,3 +6,4 @@ pub mod Reading
 pub mod Printing
 pub mod Numbering
 pub mod Recorded
+pub mod LogHistory

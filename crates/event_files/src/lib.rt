@@ -1,4 +1,4 @@
-//! Event files and plans: the events that a run is handed, as text.
+//! Event files and plans: the events that a run is handed, as text; and the recorded history of a run.
 #![tactic(auto)]
 
 mod error;
@@ -7,6 +7,7 @@ mod event_file;
 mod events;
 pub mod laws;
 mod line;
+mod log_history;
 mod numbering;
 mod numbers;
 mod parts;
@@ -18,6 +19,7 @@ pub use error::EventError;
 pub use event_file::{EventFile, parse_event_file};
 pub use events::{MOST_EVENTS, parse_events, print_events};
 pub use line::{Line, read_line};
+pub use log_history::history;
 pub use numbering::line_numbers;
 pub use parts::behind;
 pub use plan::{PlanLine, RunPlan, parse_plan, read_plan_line};

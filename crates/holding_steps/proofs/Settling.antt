@@ -6,17 +6,17 @@ use Rattle.meaning.specs.Births.{same_id}
 use Rattle.event_log.specs.Entries.{Fault, OwnerDied, main_attempt}
 use Rattle.event_log.specs.Entries as logged
 use Rattle.event_log.specs.Words.{same_attempt}
-use Rattle.numbered.specs.of_protocol.Numbered.{item_at}
-use Rattle.numbered.specs.of_protocol.Sets.{fault, has, is_empty}
-use Rattle.numbered.specs.of_protocol.Messages.{At, Gone}
-use Rattle.numbered.specs.of_protocol.Stores.{copy_in, looked_up}
-use Rattle.numbered.specs.of_protocol.Tables.{Fetching, Object, OwnTask, Phase, Ready, Out, Waits, HasEnded, HasFaulted, Execution, AskedAt, first_by, has_content, has_stopped, is_lost, is_pending_task, is_waiting_for, knows_dead, live_location, owner_of, settled_number, task_by, with_fault, with_task, without_askers, without_location, without_locations}
-use Rattle.numbered.specs.of_protocol.Steps.{WorkerContext, changes, logs, object_at, own_id, own_object, says, store_here, with_phase, with_run, with_store}
-use Rattle.numbered.specs.of_protocol.Runs.{tells_stop, tells, is_heard, leaves, leaves_by, gives_slot_back, faults_at, faults_by, faults, gets_at, gets_by, gets, fetches, with_fetching_at, with_fetching_by, with_fetching}
-use Rattle.numbered.specs.of_protocol.Asking.{requests, next_attempt, resolves, tells_gone, faults_if_waiting, answers_gone, answers_faulted_by, answers_faulted}
-use Rattle.numbered.specs.of_protocol.Recovery.{is_lost_here, members, first_stop, remakes_by, remakes_one, remakes, gives_up, recovers_by, recovers, recovers_if_lost}
-use Rattle.numbered.specs.of_protocol.Locations.{looks_elsewhere_by, looks_elsewhere, looks_here_by, looks_at_locations, looks_for_by, looks_for, needs_released, needs_unresolved, needs_by, needs_at, needs_own, needs_own_if_waiting, tells_locations, answers_settled_by, answers_settled}
-use Rattle.numbered.proofs.Lists.{changed_cases}
+use Rattle.step_laws.specs.of_protocol.Numbered.{item_at}
+use Rattle.step_laws.specs.of_protocol.Sets.{fault, has, is_empty}
+use Rattle.step_laws.specs.of_protocol.Messages.{At, Gone}
+use Rattle.step_laws.specs.of_protocol.Stores.{copy_in, looked_up}
+use Rattle.step_laws.specs.of_protocol.Tables.{Fetching, Object, OwnTask, Phase, Ready, Out, Waits, HasEnded, HasFaulted, Execution, AskedAt, first_by, has_content, has_stopped, is_lost, is_pending_task, is_waiting_for, knows_dead, live_location, owner_of, settled_number, task_by, with_fault, with_task, without_askers, without_location, without_locations}
+use Rattle.step_laws.specs.of_protocol.Steps.{WorkerContext, changes, logs, object_at, own_id, own_object, says, store_here, with_phase, with_run, with_store}
+use Rattle.step_laws.specs.of_protocol.Runs.{tells_stop, tells, is_heard, leaves, leaves_by, gives_slot_back, faults_at, faults_by, faults, gets_at, gets_by, gets, fetches, with_fetching_at, with_fetching_by, with_fetching}
+use Rattle.step_laws.specs.of_protocol.Asking.{requests, next_attempt, resolves, tells_gone, faults_if_waiting, answers_gone, answers_faulted_by, answers_faulted}
+use Rattle.step_laws.specs.of_protocol.Recovery.{is_lost_here, members, first_stop, remakes_by, remakes_one, remakes, gives_up, recovers_by, recovers, recovers_if_lost}
+use Rattle.step_laws.specs.of_protocol.Locations.{looks_elsewhere_by, looks_elsewhere, looks_here_by, looks_at_locations, looks_for_by, looks_for, needs_released, needs_unresolved, needs_by, needs_at, needs_own, needs_own_if_waiting, tells_locations, answers_settled_by, answers_settled}
+use Rattle.step_laws.proofs.Lists.{changed_cases}
 
 -- ---- the attempt's answers change no object
 tells_stop_objects : (h : WorkerContext) (run : Execution) (p : Phase) → (tells_stop h run p).worker.objects ≡ h.worker.objects

@@ -3,8 +3,8 @@ use Rattle.std.proofs.Common.{ℕ, zero, suc, ◌+◌, Bool, true, false, List, 
 use Rattle.std.specs.Prelude.{◌==◌}
 use Rattle.event_log.specs.Rules.{Setting}
 use Rattle.event_log.specs.Entries.{Released}
-use Rattle.numbered.specs.of_protocol.Steps.{WorkerContext, each_from, own_object}
-use Rattle.numbered.specs.of_protocol.Releases.{releases_by, release_pass, entries_made, release_passes, release_step}
+use Rattle.step_laws.specs.of_protocol.Steps.{WorkerContext, each_from, own_object}
+use Rattle.step_laws.specs.of_protocol.Releases.{releases_by, release_pass, entries_made, release_passes, release_step}
 use Rattle.holding.specs.Past.{Fact}
 use Rattle.holding_steps.specs.Clauses.{During, HereTrue, Goes}
 use Rattle.holding_steps.specs.Landing.{Lands, NoneGoesHeld}

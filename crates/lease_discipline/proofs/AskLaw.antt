@@ -44,7 +44,7 @@ use Rattle.lease_discipline.proofs.Asking.{Asks, GivenOf, OverBy, PassedBy, Told
 use Rattle.lease_discipline.proofs.Asking.{touched_before}
 use Rattle.lease_discipline.proofs.AskEvents.{asked_keys, asks_end, claim_asks, commit_asks, forgets_keys, last_dead, owns_dead, reached_asks}
 use Rattle.lease_discipline.proofs.AskEvents.{worker_event}
-use Rattle.protocol_laws.proofs.of_numbered.Places.{counted}
+use Rattle.protocol_laws.proofs.of_step_laws.Places.{counted}
 use Rattle.protocol_laws.proofs.of_protocol_owed.CourseEvents.{one_of}
 use Rattle.lease_discipline.proofs.Events.{among_at, events_keep, item_map}
 use Rattle.lease_discipline.proofs.Opening.{only_driver, opens}

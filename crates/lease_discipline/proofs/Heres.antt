@@ -8,9 +8,9 @@ use Rattle.event_log.specs.Entries.{Attempt, Begun, Entry, Faulted, Got}
 use Rattle.event_log.specs.Words.{attempt}
 use Rattle.event_log.specs.Breaks.{Among}
 use Rattle.protocol_laws.specs.of_protocol.Numbered.{item_at, changed_at}
-use Rattle.protocol_laws.specs.of_numbered.Counting.{item_of, changed}
-use Rattle.protocol_laws.proofs.of_numbered.Places.{changed_is, item_is}
-use Rattle.protocol_laws.proofs.of_numbered.Lists.{changed-length}
+use Rattle.protocol_laws.specs.of_step_laws.Counting.{item_of, changed}
+use Rattle.protocol_laws.proofs.of_step_laws.Places.{changed_is, item_is}
+use Rattle.protocol_laws.proofs.of_step_laws.Lists.{changed-length}
 use Rattle.protocol_laws.specs.of_protocol.Sets.{object_id, repeated}
 use Rattle.protocol_laws.specs.of_protocol.Messages.{Envelope, envelope, Message, Endpoint, TheWorker, TheNode, Ask, Give, Elsewhere, Wait, Back, Push, Finished, FinishedAck, Failed}
 use Rattle.protocol_laws.specs.of_protocol.Messages.{Where, At, Gone, Fetch, CopyOf, Missing, Hold, HoldAck, Unhold}

@@ -7,7 +7,7 @@ use Rattle.event_log.specs.Entries.{main_attempt}
 use Rattle.event_log.specs.Words.{same_attempt}
 use Rattle.event_log.proofs.WordLaws.{same_attempt-true, same_attempt-refl}
 use Rattle.protocol_laws.specs.of_protocol.Numbered.{item_at}
-use Rattle.protocol_laws.proofs.of_numbered.Places.{counted}
+use Rattle.protocol_laws.proofs.of_step_laws.Places.{counted}
 use Rattle.protocol_laws.specs.of_protocol.Sets.{repeated}
 use Rattle.protocol_laws.specs.of_protocol.Nodes.{Node, new_node, new_scheduler}
 use Rattle.protocol_laws.specs.of_protocol.Tables.{Out, OwnTask, Ready, Execution, Worker, task_of}

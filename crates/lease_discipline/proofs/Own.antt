@@ -33,7 +33,7 @@ use Rattle.lease_discipline.proofs.Theres.{envelope_cases}
 use Rattle.lease_discipline.proofs.Heres.{Does, IsToldBy, IsOverOf, IsGivenBy, at_me, at_other, busy_unwanted, by_number, does_kept, frees_does, logs_does}
 use Rattle.lease_discipline.proofs.Heres.{look_here, look_with, mine, run_does, sent_here}
 use Rattle.lease_discipline.proofs.Heres.{was_sent}
-use Rattle.protocol_laws.proofs.of_numbered.Lists.{changed-length}
+use Rattle.protocol_laws.proofs.of_step_laws.Lists.{changed-length}
 
 rests_not_stopped : Rests ≡ HasStopped → ⊥
 rests_not_stopped e = absurd (cc)

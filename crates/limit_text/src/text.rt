@@ -7,8 +7,8 @@ ghost use Rattle.limit_text.specs.Text.{objects_head, objects_remedy, objects_te
 ghost use Rattle.limit_text.specs.Text.{workers_head, workers_remedy, workers_text};
 
 use log_entries::{Entry, Event, Refusal};
+use log_text::opened;
 use std::alloc::{AllocError, Global};
-use story_text::opened;
 use why_text::{Moment, write_when};
 
 fn is_limit(entry: &Entry) -> bool

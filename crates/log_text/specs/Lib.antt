@@ -3,3 +3,7 @@ pub mod Events
 pub mod Refusals
 pub mod Entries
 pub mod Text
+pub mod Mentions
+pub mod Runners
+pub mod About
+pub mod Story

@@ -22,7 +22,7 @@ use Rattle.seats.specs.of_protocol_board.Cores.{stopped_of, work_of}
 use Rattle.seats.specs.of_protocol_board.Cores.{RunState}
 use Rattle.seats.specs.of_protocol_board.Cores.{Follows, GivesThat, IsApplied, IsHanded, IsHandedFor, IsOut, Reply, Tells}
 use Rattle.seats.specs.of_protocol_board.Replays.{AllPlay, IsDoneOn, Play, PlaysHistory, Step, found_no_memory, job_at, job_for, left_by, next_line, with_given}
-use Rattle.histories.specs.Recorded.{recorded_in}
+use Rattle.event_files.specs.LogHistory.{recorded_in}
 use Rattle.migration.specs.Migration.{MigratedIsSame, OneRun}
 use Rattle.migration.proofs.Migrating.{histories_replay}
 

@@ -14,7 +14,7 @@ use Rattle.log_entries.specs.declared.refusal.Refusal.{Refusal}
 use Rattle.event_files.specs.declared.line.Line.{Line}
 use Rattle.event_files.specs.declared.line.Line.TheVariants as lines
 use Rattle.event_files.specs.declared.recorded.RecordedEvent.{RecordedEvent}
-use Rattle.histories.specs.Recorded as recorded
+use Rattle.event_files.specs.LogHistory as recorded
 use Rattle.protocol.specs.Jobs.{CommitInput, Job}
 use Rattle.protocol.specs.Cluster.{ClusterState, Transition}
 use Rattle.protocol.specs.Events.{happens}

@@ -6,7 +6,7 @@ use Rattle.event_log.specs.Events.{refused_next}
 use Rattle.event_log.specs.Legal.{opening}
 use Rattle.event_files.specs.declared.line.Line.{Line}
 use Rattle.event_files.specs.declared.recorded.RecordedEvent.{RecordedEvent}
-use Rattle.histories.specs.Recorded.{recorded_in}
+use Rattle.event_files.specs.LogHistory.{recorded_in}
 use Rattle.seats.specs.of_protocol_board.Replays.{Gives, Play, Plays, PlaysHistory, next_line}
 
 -- what a history says of an event

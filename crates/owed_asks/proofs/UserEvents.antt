@@ -46,7 +46,7 @@ use Rattle.protocol_owed.proofs.CourseRuns.{OutOf, out_of}
 use Rattle.smallest_steps.proofs.Smallest.{AnyOver, AnyPassed, AnyTold}
 use Rattle.lease_discipline.specs.Asks.{Asked, IsDeadNode, IsPassed, KeepsAsks, Touched}
 use Rattle.lease_discipline.specs.Discipline.{IsOfNode, KeepsLeases}
-use Rattle.numbered.proofs.Places.{counted}
+use Rattle.step_laws.proofs.Places.{counted}
 use Rattle.lease_discipline.proofs.Heres.{by_number, changed_elsewhere}
 use Rattle.lease_discipline.proofs.Laws.{promise}
 use Rattle.lease_discipline.proofs.Moves.{IsHeardFrom, IsKept, asks_where-kept, bears_all-kept, keeps_contents-kept, leaves_if_free-kept}

@@ -34,7 +34,7 @@ use Rattle.lease_discipline.proofs.Theres.{envelope_more, with_envelope}
 use Rattle.lease_discipline.proofs.Turns.{sch}
 use Rattle.owed_asks.proofs.SlotUsers.{Counts, HasUse, IsAnswered, IsFresh, IsHere, IsUser, Nobody, One, Used, frees_used, slot_used}
 use Rattle.owed_asks.proofs.SlotUsers.{used_more, used_so}
-use Rattle.numbered.proofs.Lists.{changed-length}
+use Rattle.step_laws.proofs.Lists.{changed-length}
 
 -- ---- what a node does to idle workers and to its queue
 

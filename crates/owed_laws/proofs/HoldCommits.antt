@@ -14,7 +14,7 @@ use Rattle.event_log.specs.Breaks.{Among}
 use Rattle.event_log.specs.Entries.{Attempt, Born, Deliver, Ended, Entry, Event, main_attempt}
 use Rattle.event_log.specs.Holding.{ids_of_birth}
 use Rattle.event_log.specs.Words.{births, same_attempt}
-use Rattle.numbered.proofs.Lists.{changed-length}
+use Rattle.step_laws.proofs.Lists.{changed-length}
 use Rattle.protocol.specs.Commits.{bears, bears_all, commit_by, commit_step, next_id_here, stops, stops_by, each_holds, keeps_contents, task_objects, with_objects, with_outcomes}
 use Rattle.protocol.specs.Holders.{adds_holder, awaits_hold_by, holding, holds_id, holds_ids, passes_on, sends_hold, with_holding}
 use Rattle.protocol.specs.Jobs.{AtEnd, AtGet, Outcomes, Stopped, stop_of}

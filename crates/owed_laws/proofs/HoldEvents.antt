@@ -15,7 +15,7 @@ use Rattle.event_log.specs.Breaks.{Among}
 use Rattle.event_log.specs.Entries.{Attempt, Deliver, Ended, Entry, Event, In, main_attempt}
 use Rattle.event_log.specs.Events.{accepted_events}
 use Rattle.event_log.specs.Rules.{Setting}
-use Rattle.numbered.specs.Counting.{item_of}
+use Rattle.step_laws.specs.Counting.{item_of}
 use Rattle.protocol.specs.Messages.{Hold, HoldAck, Envelope, Message, Endpoint, Push, TheWorker, envelope}
 use Rattle.protocol.specs.Numbered.{changed_at, item_at}
 use Rattle.protocol.specs.Sets.{repeated}

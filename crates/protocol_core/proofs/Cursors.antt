@@ -1,8 +1,8 @@
 -- The cursor into the messages: it stays right behind each event, and the search for the next event may begin there.
 use Rattle.std.proofs.Common.{◌≡◌, ℕ, zero, true, false, List, Option, sym, ap, ◌∙◌, subst, inl, inr}
 use Rattle.std.specs.Option.{option_map}
-use Rattle.cursor_laws.specs.Cursors.{IsAtFirst, IsPast}
-use Rattle.cursor_laws.proofs.Delivered.{first_of_none, past_after, search_from}
+use Rattle.step_laws.specs.Cursors.{IsAtFirst, IsPast}
+use Rattle.step_laws.proofs.Delivered.{first_of_none, past_after, search_from}
 use Rattle.event_log.specs.Entries.{Claim, Commit, Deliver, Event}
 use Rattle.protocol.specs.Settling.{first_job, first_ready, next, or_event}
 use Rattle.protocol.specs.Cluster.{ClusterState}

@@ -43,7 +43,7 @@ impl<S: ScriptName> Model for Core<S> {
     ghost use Rattle.ids.specs.Codes.{attempt_code};
     ghost use Rattle.values.specs.FaultCodes.{fault_code};
     ghost use Rattle.values.specs.contracts.value.RunValue as run_values;
-    ghost use Rattle.cursor_laws.specs.Cursors.{IsAtFirst};
+    ghost use Rattle.step_laws.specs.Cursors.{IsAtFirst};
     ghost use Rattle.protocol_core.specs.States.{IsSoundRun, RunState};
     ghost use Rattle.protocol_core.specs.Views.{state_of};
 

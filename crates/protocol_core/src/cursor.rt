@@ -1,13 +1,13 @@
 // How far the messages were delivered.
 
 ghost use Rattle.std.specs.Prelude.{◌≡◌, ◌≤◌, false};
-ghost use Rattle.cursor_laws.specs.Cursors.{IsAtFirst, IsPast};
+ghost use Rattle.step_laws.specs.Cursors.{IsAtFirst, IsPast};
 
 use crate::state::State;
 use sequence::Seq;
 
 /// The place of the first message that was never delivered, where those before the given place were; or how many messages there are.
-#[tactic(auto, using(cursor_laws::proofs::Delivered::past_within))]
+#[tactic(auto, using(step_laws::proofs::Delivered::past_within))]
 fn past_delivered(delivered: &Seq<bool>, from: usize) -> usize
     requires { IsPast from delivered.now }
     ensures first { IsAtFirst result delivered.now }

@@ -1,7 +1,7 @@
 // What each event makes of a run's state, and how it is answered.
 
 ghost use Rattle.std.specs.Prelude.{◌≡◌, ◌≤◌, false, true, IfOk, IfSome, OnOk, OnErr};
-ghost use Rattle.cursor_laws.specs.Cursors.{IsAtFirst};
+ghost use Rattle.step_laws.specs.Cursors.{IsAtFirst};
 ghost use Rattle.segment.specs.Jobs.{IsTrueOf};
 ghost use Rattle.protocol_core.specs.Limits.{Limits};
 ghost use Rattle.protocol_core.specs.Meant.{IsSoundLog};

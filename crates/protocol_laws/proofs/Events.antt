@@ -55,7 +55,7 @@ use Rattle.protocol_laws.proofs.StaysOut.{out_at_message, out_at_node_notice, ou
 use Rattle.protocol_laws.specs.Coming.{IsRight}
 use Rattle.protocol_laws.proofs.Premises.{births_in, dead_on, refused_true, runs_begun, untouched, worker_killed_in}
 use Rattle.protocol_laws.proofs.Tests.{WorkerThere, dead_node, dead_worker, live_node, live_worker, or_none, out_run, ready_run, unless_none}
-use Rattle.holding_steps.proofs.of_numbered.Lists.{item_within, changed-length}
+use Rattle.holding_steps.proofs.of_step_laws.Lists.{item_within, changed-length}
 
 -- after the event, which made this of the whole, the run is sound
 abbrev pub Follows : Setting → List Entry → Event → ℕ → Transition → Type 0

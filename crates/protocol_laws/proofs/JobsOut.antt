@@ -7,9 +7,9 @@ use Rattle.std.proofs.lemmas.List.{length-append}
 use Rattle.event_log.specs.Entries.{Entry}
 use Rattle.event_log.specs.Events.{claims, has_job_out, is_committed, is_out_from}
 use Rattle.holding_steps.specs.of_protocol.Numbered.{item_at, changed_at}
-use Rattle.holding_steps.specs.of_numbered.Counting.{item_of}
-use Rattle.holding_steps.proofs.of_numbered.Places.{placed}
-use Rattle.holding_steps.proofs.of_numbered.Lists.{changed_cases, changed-length, item_within, pushed_cases, joined_cases, counted_repeated_at}
+use Rattle.holding_steps.specs.of_step_laws.Counting.{item_of}
+use Rattle.holding_steps.proofs.of_step_laws.Places.{placed}
+use Rattle.holding_steps.proofs.of_step_laws.Lists.{changed_cases, changed-length, item_within, pushed_cases, joined_cases, counted_repeated_at}
 use Rattle.holding_steps.specs.of_protocol.Sets.{repeated}
 use Rattle.holding_steps.specs.of_protocol.Jobs.{JobRecord}
 use Rattle.holding_steps.specs.of_protocol.Tables.{Out, Ready, Execution, Worker, new_worker}

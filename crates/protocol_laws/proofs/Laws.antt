@@ -10,7 +10,7 @@ use Rattle.holding_steps.specs.of_holding.Past.{Begun}
 use Rattle.holding_steps.proofs.Keeping.{steps_keep}
 use Rattle.protocol_legal.specs.Whole.{setting_of}
 use Rattle.protocol_legal.proofs.FrameHolds.{steps_stay_legal}
-use Rattle.holding_steps.proofs.of_numbered.Places.{counted}
+use Rattle.holding_steps.proofs.of_step_laws.Places.{counted}
 use Rattle.holding_steps.specs.of_protocol.Jobs.{JobRecord}
 use Rattle.protocol_laws.specs.Sound.{IsSound, JobsAreOut}
 use Rattle.protocol_laws.specs.Coming.{AllRight, all_after, log_after}

@@ -5,7 +5,7 @@ pub mod Pace
 pub mod Given
 pub mod Shown
 pub mod Plans
-pub use Rattle.holding_steps.specs.of_numbered as of_numbered
+pub use Rattle.holding_steps.specs.of_step_laws as of_step_laws
 pub use Rattle.holding_steps.specs.of_protocol as of_protocol
 pub use Rattle.protocol_legal.specs as of_protocol_legal
 pub use Rattle.protocol_owed.specs as of_protocol_owed

@@ -14,13 +14,13 @@ use Rattle.kind_laws.specs.of_event_log.Words.{attempt, births, same_attempt, ne
 use Rattle.kind_laws.specs.of_event_log.Breaks.{Among}
 use Rattle.kind_laws.specs.of_event_log.Rules.{AreUnspent, IsUnresolved, MayAccept}
 use Rattle.kind_laws.proofs.of_event_log.WordLaws.{same_attempt-true}
-use Rattle.numbered.specs.of_protocol.Numbered.{item_at, changed_at}
-use Rattle.numbered.specs.of_protocol.Sets.{fault, has, object_id}
-use Rattle.numbered.specs.of_protocol.Tables.{Beside, Progress, AtRest, AskedAt, RunsOn, OwnTask, ObjectSource, ByTask, WasPut, Object, Worker, first_by, is_pending_task, is_under_way, is_wanted, task_in, task_of, with_task, with_content, locations_for}
-use Rattle.numbered.specs.of_protocol.Messages.{EndedResult}
-use Rattle.numbered.specs.of_protocol.Steps.{WorkerContext, logs, with_task_of}
-use Rattle.numbered.specs.of_protocol.Asking.{rests}
-use Rattle.numbered.specs.of_protocol.Ends.{accepts}
+use Rattle.step_laws.specs.of_protocol.Numbered.{item_at, changed_at}
+use Rattle.step_laws.specs.of_protocol.Sets.{fault, has, object_id}
+use Rattle.step_laws.specs.of_protocol.Tables.{Beside, Progress, AtRest, AskedAt, RunsOn, OwnTask, ObjectSource, ByTask, WasPut, Object, Worker, first_by, is_pending_task, is_under_way, is_wanted, task_in, task_of, with_task, with_content, locations_for}
+use Rattle.step_laws.specs.of_protocol.Messages.{EndedResult}
+use Rattle.step_laws.specs.of_protocol.Steps.{WorkerContext, logs, with_task_of}
+use Rattle.step_laws.specs.of_protocol.Asking.{rests}
+use Rattle.step_laws.specs.of_protocol.Ends.{accepts}
 use Rattle.protocol_legal.specs.Past.{Asking, Past}
 use Rattle.values.specs.Cells.{if_small}
 use Rattle.values.specs.Listed.{adding}
@@ -42,7 +42,7 @@ use Rattle.protocol_legal.proofs.EndRows.{IsToldOf, all_known, told_each, told_o
 use Rattle.protocol_legal.proofs.Firsts.{first_part}
 use Rattle.protocol_legal.proofs.Names.{all_adding, all_each, has_beside, names_grow}
 use Rattle.protocol_legal.proofs.Placing.{lone}
-use Rattle.numbered.proofs.Lists.{changed-length}
+use Rattle.step_laws.proofs.Lists.{changed-length}
 
 past_end : (ws : List ℕ) (i : ℕ) → i ≡ length ws → slice_get ws i ≡ None
 past_end [] i e = refl
@@ -479,7 +479,7 @@ module _ (f : Frame) (asked : List Asking) (h : WorkerContext) (s : SoundHere f 
         let res = result_of j z t.result.ids km row.new v (v_is ∙ ap (λ (r : EndedResult). with_content task.number m t.result.ids r.kept row.new) same_told) (row.is_released ∙ row.released ∙ kt.kept pending) in
         record {
           bearer = subst (λ b. Among b (Rattle.kind_laws.specs.of_event_log.Words.bearers_of (object_id h.me j) q.log)) (sym bearer) (word_grows p q way z.bearer (Rattle.kind_laws.specs.of_event_log.Words.bearer_in (object_id h.me j)) ko.bearer);
-          stopped = subst (λ b. Rattle.protocol_legal.specs.Knows.HasStopped q.log b ⊎ ((u : Rattle.numbered.specs.of_protocol.Tables.Execution) × (h.worker.run ≡ Some u) × (u.attempt ≡ b))) (sym bearer) (kept_stop p q way h.worker ys z.bearer ko.stopped);
+          stopped = subst (λ b. Rattle.protocol_legal.specs.Knows.HasStopped q.log b ⊎ ((u : Rattle.step_laws.specs.of_protocol.Tables.Execution) × (h.worker.run ≡ Some u) × (u.attempt ≡ b))) (sym bearer) (kept_stop p q way h.worker ys z.bearer ko.stopped);
           resolved = same_word p q way (resolved_in (object_id h.me j)) refl ∙ ko.resolved ∙ ap listed (sym faults);
           known = λ g e. way.faults g (ko.known g (sym faults ∙ e));
           released = same_word p q way (released_in (object_id h.me j)) refl ∙ ko.released ∙ ap (λ b. Rattle.protocol_legal.specs.Knows.once b (object_id h.me j)) (sym release);

@@ -10,12 +10,12 @@ use Rattle.meaning.specs.Values.{Task}
 use Rattle.meaning.proofs.BirthLaws.{at_test}
 use Rattle.kind_laws.specs.of_event_log.Words.{attempt, births, runs_of}
 use Rattle.kind_laws.specs.of_event_log.Breaks.{RetriesAreUsed}
-use Rattle.numbered.specs.of_protocol.Numbered.{item_at, changed_at}
-use Rattle.numbered.specs.of_protocol.Sets.{is_empty, object_id, retries_in}
-use Rattle.numbered.specs.of_protocol.Tables.{AskedAt, Beside, ByTask, ObjectSource, Object, OwnTask, WasPut, first_by, is_lost, is_nowhere, is_pending, is_pending_by, is_pending_task, is_whole, may_try_again, task_by, task_of, with_task}
-use Rattle.numbered.specs.of_protocol.Steps.{WorkerContext}
-use Rattle.numbered.specs.of_protocol.Asking.{next_attempt, requests}
-use Rattle.numbered.specs.of_protocol.Recovery.{remakes, remakes_by, remakes_one}
+use Rattle.step_laws.specs.of_protocol.Numbered.{item_at, changed_at}
+use Rattle.step_laws.specs.of_protocol.Sets.{is_empty, object_id, retries_in}
+use Rattle.step_laws.specs.of_protocol.Tables.{AskedAt, Beside, ByTask, ObjectSource, Object, OwnTask, WasPut, first_by, is_lost, is_nowhere, is_pending, is_pending_by, is_pending_task, is_whole, may_try_again, task_by, task_of, with_task}
+use Rattle.step_laws.specs.of_protocol.Steps.{WorkerContext}
+use Rattle.step_laws.specs.of_protocol.Asking.{next_attempt, requests}
+use Rattle.step_laws.specs.of_protocol.Recovery.{remakes, remakes_by, remakes_one}
 use Rattle.protocol_legal.specs.Past.{Asking}
 use Rattle.protocol_legal.specs.Lost.{IsLost}
 use Rattle.protocol_legal.specs.Knows.{IsBegun, IsSpent, IsWanted, KnowsTask}

@@ -20,12 +20,12 @@ use Rattle.kind_laws.proofs.of_event_log.OwnLaws.{told-plain}
 use Rattle.kind_laws.proofs.of_event_log.FreshLaws.{born_if_first}
 use Rattle.kind_laws.proofs.of_event_log.WordLaws.{word_push, births_push, next_serial-push, same_attempt-true, same_attempt-refl}
 use Rattle.values.specs.Listed.{each_once}
-use Rattle.numbered.specs.of_protocol.Numbered.{item_at}
-use Rattle.numbered.specs.Counting.{item_of}
-use Rattle.numbered.proofs.Lists.{joined_cases}
-use Rattle.numbered.specs.of_protocol.Sets.{object_id}
-use Rattle.numbered.specs.of_protocol.Tables.{ObjectSource, WasPut, ByTask, Beside, Object, OwnTask, Ready, Execution, Worker, first_by, task_of}
-use Rattle.numbered.specs.of_protocol.Events.{objects_made}
+use Rattle.step_laws.specs.of_protocol.Numbered.{item_at}
+use Rattle.step_laws.specs.Counting.{item_of}
+use Rattle.step_laws.proofs.Lists.{joined_cases}
+use Rattle.step_laws.specs.of_protocol.Sets.{object_id}
+use Rattle.step_laws.specs.of_protocol.Tables.{ObjectSource, WasPut, ByTask, Beside, Object, OwnTask, Ready, Execution, Worker, first_by, task_of}
+use Rattle.step_laws.specs.of_protocol.Events.{objects_made}
 use Rattle.protocol_legal.specs.Past.{Asking, Past, past, asking, WasAskedAt}
 use Rattle.protocol_legal.specs.Grows.{Grows}
 use Rattle.protocol_legal.specs.Knows.{GoesOn, KnowsTask, listed, once, IsPartOf, IsRow, IsTask, IsUntouched, KnowsSource, KnowsObject, KnowsPhase, KnowsResult, KnowsRun, KnowsWorker}

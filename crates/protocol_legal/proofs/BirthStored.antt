@@ -18,8 +18,8 @@ use Rattle.kind_laws.proofs.of_event_log.OwnLaws.{live-plain}
 use Rattle.kind_laws.proofs.of_event_log.FreshLaws.{born_if_first}
 use Rattle.kind_laws.proofs.of_event_log.WordLaws.{same_attempt-true}
 use Rattle.values.specs.Cells.{is_small}
-use Rattle.numbered.specs.of_protocol.Stores.{Copy, Store, copy, is_copy_of, with_ended, with_primary}
-use Rattle.numbered.specs.of_protocol.Nodes.{Node}
+use Rattle.step_laws.specs.of_protocol.Stores.{Copy, Store, copy, is_copy_of, with_ended, with_primary}
+use Rattle.step_laws.specs.of_protocol.Nodes.{Node}
 use Rattle.protocol_legal.specs.Past.{Asking, Past, past}
 use Rattle.protocol_legal.specs.Made.{HasResult, IsPutAt, IsEndedAt, IsMadeAt, IsCopy, IsTaken}
 use Rattle.protocol_legal.specs.Grows.{Grows}

@@ -11,13 +11,13 @@ use Rattle.meaning.proofs.BirthLaws.{at_test}
 use Rattle.values.specs.Listed.{each_once}
 use Rattle.kind_laws.specs.of_event_log.Entries.{Attempt}
 use Rattle.kind_laws.specs.of_event_log.Holding.{ids_of_birth}
-use Rattle.numbered.specs.of_protocol.Numbered.{item_at, changed_at}
-use Rattle.numbered.specs.Counting.{item_of, changed}
-use Rattle.numbered.proofs.Places.{changed_is, placed}
-use Rattle.numbered.proofs.Lists.{counted_item_within, counted_repeated_at}
-use Rattle.numbered.specs.of_protocol.Sets.{repeated}
-use Rattle.numbered.specs.of_protocol.Tables.{AskedAt, OwnTask, ObjectSource, ByTask, Beside, Object, new_task, new_object, put_object}
-use Rattle.numbered.specs.of_protocol.Events.{objects_made}
+use Rattle.step_laws.specs.of_protocol.Numbered.{item_at, changed_at}
+use Rattle.step_laws.specs.Counting.{item_of, changed}
+use Rattle.step_laws.proofs.Places.{changed_is, placed}
+use Rattle.step_laws.proofs.Lists.{counted_item_within, counted_repeated_at}
+use Rattle.step_laws.specs.of_protocol.Sets.{repeated}
+use Rattle.step_laws.specs.of_protocol.Tables.{AskedAt, OwnTask, ObjectSource, ByTask, Beside, Object, new_task, new_object, put_object}
+use Rattle.step_laws.specs.of_protocol.Events.{objects_made}
 
 -- ---- lists
 

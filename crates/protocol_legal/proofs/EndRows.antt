@@ -8,18 +8,18 @@ use Rattle.meaning.specs.Runs.{next_id}
 use Rattle.meaning.specs.Values.{Id, Outcome}
 use Rattle.meaning.proofs.BirthLaws.{at_test}
 use Rattle.values.specs.Cells.{if_small}
-use Rattle.numbered.specs.of_protocol.Numbered.{item_at, changed_at}
-use Rattle.numbered.specs.of_protocol.Sets.{object_id, rest_of}
-use Rattle.numbered.specs.of_protocol.Tables.{Object, Worker, first_by, with_content}
-use Rattle.numbered.specs.of_protocol.Messages.{EndedResult}
-use Rattle.numbered.specs.of_protocol.Steps.{WorkerContext, with_worker}
-use Rattle.numbered.specs.of_protocol.Ends.{first_result, settles}
+use Rattle.step_laws.specs.of_protocol.Numbered.{item_at, changed_at}
+use Rattle.step_laws.specs.of_protocol.Sets.{object_id, rest_of}
+use Rattle.step_laws.specs.of_protocol.Tables.{Object, Worker, first_by, with_content}
+use Rattle.step_laws.specs.of_protocol.Messages.{EndedResult}
+use Rattle.step_laws.specs.of_protocol.Steps.{WorkerContext, with_worker}
+use Rattle.step_laws.specs.of_protocol.Ends.{first_result, settles}
 use Rattle.protocol_legal.specs.Past.{Past}
 use Rattle.protocol_legal.specs.Grows.{Grows}
 use Rattle.protocol_legal.specs.Knows.{KnowsObject}
 use Rattle.protocol_legal.proofs.Numbers.{item-same, item-elsewhere}
 use Rattle.protocol_legal.proofs.Keeping.{IsQuiet, IsQuietTask, RowsStay, RunStays, object_quiet}
-use Rattle.numbered.proofs.Lists.{changed-length}
+use Rattle.step_laws.proofs.Lists.{changed-length}
 
 -- ---- the objects of other tasks stay as they are
 

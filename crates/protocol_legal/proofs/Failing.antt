@@ -10,12 +10,12 @@ use Rattle.kind_laws.specs.of_event_log.Words.{attempt, faulted_in, resolves_of,
 use Rattle.kind_laws.specs.of_event_log.Breaks.{Among}
 use Rattle.kind_laws.specs.of_event_log.Rules.{IsOwn, LastFaulted, MayResolve, Setting}
 use Rattle.kind_laws.proofs.of_event_log.Extending.{parts-more}
-use Rattle.numbered.specs.of_protocol.Sets.{object_id}
-use Rattle.numbered.specs.of_protocol.Tables.{Object, OwnTask, RunsOn, is_pending_task, task_of}
-use Rattle.numbered.specs.of_protocol.Ends.{failed_by, failed_reached, fails, hears_of_end, if_present, resolves_open_by}
-use Rattle.numbered.specs.of_protocol.Asking.{answers_faulted, rests}
-use Rattle.numbered.specs.of_protocol.Messages.{FinishedAck}
-use Rattle.numbered.specs.of_protocol.Steps.{WorkerContext, each_result, object_at, with_task_of}
+use Rattle.step_laws.specs.of_protocol.Sets.{object_id}
+use Rattle.step_laws.specs.of_protocol.Tables.{Object, OwnTask, RunsOn, is_pending_task, task_of}
+use Rattle.step_laws.specs.of_protocol.Ends.{failed_by, failed_reached, fails, hears_of_end, if_present, resolves_open_by}
+use Rattle.step_laws.specs.of_protocol.Asking.{answers_faulted, rests}
+use Rattle.step_laws.specs.of_protocol.Messages.{FinishedAck}
+use Rattle.step_laws.specs.of_protocol.Steps.{WorkerContext, each_result, object_at, with_task_of}
 use Rattle.protocol_legal.specs.Past.{Asking, Past}
 use Rattle.protocol_legal.specs.Lost.{IsKnownFault}
 use Rattle.protocol_legal.specs.Says.{HasFault}

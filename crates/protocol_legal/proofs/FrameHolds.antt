@@ -6,10 +6,10 @@ use Rattle.std.proofs.lemmas.Option.{same_Some}
 use Rattle.kind_laws.specs.of_event_log.Entries.{Deliver, Entry, In}
 use Rattle.kind_laws.specs.of_event_log.Rules.{Setting}
 use Rattle.kind_laws.proofs.of_event_log.Extending.{logs_extend}
-use Rattle.numbered.specs.of_protocol.Messages.{Envelope}
-use Rattle.numbered.specs.of_protocol.Cluster.{ClusterState}
-use Rattle.numbered.specs.Counting.{item_of}
-use Rattle.numbered.proofs.Places.{counted}
+use Rattle.step_laws.specs.of_protocol.Messages.{Envelope}
+use Rattle.step_laws.specs.of_protocol.Cluster.{ClusterState}
+use Rattle.step_laws.specs.Counting.{item_of}
+use Rattle.step_laws.proofs.Places.{counted}
 use Rattle.protocol_legal.specs.Past.{past}
 use Rattle.protocol_legal.specs.Says.{Says}
 use Rattle.protocol_legal.proofs.Growing.{says_grows}
@@ -24,7 +24,7 @@ use Rattle.protocol_legal.proofs.FrameNodesChange.{joins_whole, node_dies_whole}
 use Rattle.protocol_legal.proofs.FrameBegins.{first_sound}
 use Rattle.protocol_legal.specs.Steps.{EventsOfOthers, EventsOfWorkers}
 use Rattle.protocol_legal.specs.Law.{StepsStayLegal}
-use Rattle.numbered.specs.of_protocol.Numbered.{item_at}
+use Rattle.step_laws.specs.of_protocol.Numbered.{item_at}
 use Rattle.protocol_legal.specs.Whole.{Between}
 
 pub item_said : (P : Envelope → Type 0) (ls : List Envelope) (i k : ℕ) (l : Envelope) → AllByRecursion P ls → item_of i ls k ≡ Some l → P l

@@ -5,12 +5,12 @@ use Rattle.std.proofs.lemmas.Bool.Decides.{nat_tests}
 use Rattle.meaning.specs.Values.{Id}
 use Rattle.meaning.proofs.BirthLaws.{at_test, same_id-true}
 use Rattle.kind_laws.specs.of_event_log.Entries.{Fault}
-use Rattle.numbered.specs.of_protocol.Sets.{object_id}
-use Rattle.numbered.specs.of_protocol.Messages.{Gone}
-use Rattle.numbered.specs.of_protocol.Tables.{Object, Phase, Ready, Out, Waits, HasEnded, HasFaulted, Execution, without_askers, is_waiting_for, needed_by, object_needed, is_same_id}
-use Rattle.numbered.specs.of_protocol.Steps.{WorkerContext, says, own_object, changes}
-use Rattle.numbered.specs.of_protocol.Runs.{faults, faults_by, faults_at}
-use Rattle.numbered.specs.of_protocol.Asking.{tells_gone, faults_if_waiting, answers_gone, answers_faulted_by, answers_faulted}
+use Rattle.step_laws.specs.of_protocol.Sets.{object_id}
+use Rattle.step_laws.specs.of_protocol.Messages.{Gone}
+use Rattle.step_laws.specs.of_protocol.Tables.{Object, Phase, Ready, Out, Waits, HasEnded, HasFaulted, Execution, without_askers, is_waiting_for, needed_by, object_needed, is_same_id}
+use Rattle.step_laws.specs.of_protocol.Steps.{WorkerContext, says, own_object, changes}
+use Rattle.step_laws.specs.of_protocol.Runs.{faults, faults_by, faults_at}
+use Rattle.step_laws.specs.of_protocol.Asking.{tells_gone, faults_if_waiting, answers_gone, answers_faulted_by, answers_faulted}
 use Rattle.protocol_legal.specs.Past.{Asking}
 use Rattle.protocol_legal.specs.Says.{IsGone}
 use Rattle.protocol_legal.specs.Knows.{listed, KnowsObject, KnowsPhase, KnowsRun}

@@ -5,10 +5,10 @@ use Rattle.meaning.specs.Values.{Id}
 use Rattle.meaning.proofs.BirthLaws.{at_test}
 use Rattle.kind_laws.specs.of_event_log.Entries.{Entry}
 use Rattle.kind_laws.specs.of_event_log.Holding.{HasId}
-use Rattle.numbered.specs.of_protocol.Sets.{object_id}
-use Rattle.numbered.specs.of_protocol.Tables.{Object, knows_dead, with_holder, with_dead_holder}
-use Rattle.numbered.specs.of_protocol.Steps.{WorkerContext, changes}
-use Rattle.numbered.specs.of_protocol.Holders.{adds_holder}
+use Rattle.step_laws.specs.of_protocol.Sets.{object_id}
+use Rattle.step_laws.specs.of_protocol.Tables.{Object, knows_dead, with_holder, with_dead_holder}
+use Rattle.step_laws.specs.of_protocol.Steps.{WorkerContext, changes}
+use Rattle.step_laws.specs.of_protocol.Holders.{adds_holder}
 use Rattle.protocol_legal.specs.Past.{Asking}
 use Rattle.protocol_legal.specs.Names.{IsDeadHolder, IsDeadIfAny, NamesOf}
 use Rattle.protocol_legal.specs.During.{Frame, so_far, SoundHere}
@@ -21,7 +21,7 @@ held_names log o e x has k = record { ids = k.ids; holders = all_adding (λ d. H
 pub lost_names : (log : List Entry) (o e : Id) (x : Object) → IsDeadHolder log e o → NamesOf log o x → NamesOf log o (with_dead_holder e x)
 lost_names log o e x lost k = record { ids = k.ids; holders = k.holders; dead = by x.dead_holder k.dead }
   where
-    by : (d : _) → IsDeadIfAny log o d → IsDeadIfAny log o (Some (Rattle.numbered.specs.of_protocol.Tables.id_or d e))
+    by : (d : _) → IsDeadIfAny log o d → IsDeadIfAny log o (Some (Rattle.step_laws.specs.of_protocol.Tables.id_or d e))
     by None h = lost
     by (Some d) h = h
 

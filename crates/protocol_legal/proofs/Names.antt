@@ -10,8 +10,8 @@ use Rattle.meaning.proofs.BirthLaws.{at_test}
 use Rattle.values.specs.Listed.{without, each_once, adding}
 use Rattle.kind_laws.specs.of_event_log.Breaks.{Among}
 use Rattle.kind_laws.specs.of_event_log.Holding.{HasId, InBirth, InContents, ids_of_birth}
-use Rattle.numbered.specs.of_protocol.Tables.{Holding}
-use Rattle.numbered.specs.of_protocol.Holders.{first_born, first_born_first}
+use Rattle.step_laws.specs.of_protocol.Tables.{Holding}
+use Rattle.step_laws.specs.of_protocol.Holders.{first_born, first_born_first}
 use Rattle.protocol_legal.specs.Past.{Past}
 use Rattle.protocol_legal.specs.Grows.{Grows}
 use Rattle.protocol_legal.specs.Names.{IsDeadIfAny, AllHave, KnowsNames}

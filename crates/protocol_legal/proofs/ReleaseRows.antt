@@ -11,14 +11,14 @@ use Rattle.kind_laws.specs.of_event_log.Entries.{Entry, Released}
 use Rattle.kind_laws.specs.of_event_log.Words.{released_in}
 use Rattle.kind_laws.specs.of_event_log.Events.{refused_next}
 use Rattle.kind_laws.specs.of_event_log.Legal.{has_event}
-use Rattle.numbered.specs.of_protocol.Numbered.{item_at, changed_at}
-use Rattle.numbered.specs.of_protocol.Sets.{object_id}
-use Rattle.numbered.specs.of_protocol.Tables.{Object, released}
-use Rattle.numbered.specs.of_protocol.Steps.{WorkerContext, with_worker}
-use Rattle.numbered.specs.of_protocol.Releases.{marks_released}
+use Rattle.step_laws.specs.of_protocol.Numbered.{item_at, changed_at}
+use Rattle.step_laws.specs.of_protocol.Sets.{object_id}
+use Rattle.step_laws.specs.of_protocol.Tables.{Object, released}
+use Rattle.step_laws.specs.of_protocol.Steps.{WorkerContext, with_worker}
+use Rattle.step_laws.specs.of_protocol.Releases.{marks_released}
 use Rattle.protocol_legal.proofs.Numbers.{item-same, item-elsewhere}
 use Rattle.protocol_legal.proofs.Resolving.{same_serial}
-use Rattle.numbered.proofs.Lists.{changed-length}
+use Rattle.step_laws.proofs.Lists.{changed-length}
 
 -- ---- the rows
 

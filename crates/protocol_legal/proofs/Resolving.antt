@@ -12,11 +12,11 @@ use Rattle.kind_laws.specs.of_event_log.Words.{opened_in, resolved_in, resolves_
 use Rattle.kind_laws.specs.of_event_log.Rules.{Allowed, IsOwn, MayResolve, Setting}
 use Rattle.kind_laws.proofs.of_event_log.OwnLaws.{own-plain}
 use Rattle.kind_laws.proofs.of_event_log.WordLaws.{word_push}
-use Rattle.numbered.specs.of_protocol.Numbered.{item_at, changed_at}
-use Rattle.numbered.specs.of_protocol.Sets.{object_id}
-use Rattle.numbered.specs.of_protocol.Tables.{Object, with_fault}
-use Rattle.numbered.specs.of_protocol.Steps.{WorkerContext, each_from, logs, logs_all, object_at, own_id, own_object, with_worker}
-use Rattle.numbered.specs.of_protocol.Asking.{resolves}
+use Rattle.step_laws.specs.of_protocol.Numbered.{item_at, changed_at}
+use Rattle.step_laws.specs.of_protocol.Sets.{object_id}
+use Rattle.step_laws.specs.of_protocol.Tables.{Object, with_fault}
+use Rattle.step_laws.specs.of_protocol.Steps.{WorkerContext, each_from, logs, logs_all, object_at, own_id, own_object, with_worker}
+use Rattle.step_laws.specs.of_protocol.Asking.{resolves}
 use Rattle.protocol_legal.specs.Past.{Asking, WasAskedAt}
 use Rattle.protocol_legal.specs.Grows.{Grows}
 use Rattle.protocol_legal.specs.Knows.{KnowsWorker}
@@ -24,7 +24,7 @@ use Rattle.protocol_legal.specs.During.{Frame, SoundHere, SoundThere, past_of, s
 use Rattle.protocol_legal.proofs.Numbers.{item-same, item-elsewhere}
 use Rattle.protocol_legal.proofs.Growing.{grows_on}
 use Rattle.protocol_legal.proofs.Logging.{beside_plain, grows_logged, is_beside, so_far_push, there_logs}
-use Rattle.numbered.proofs.Lists.{changed-length}
+use Rattle.step_laws.proofs.Lists.{changed-length}
 
 -- ---- a worker in its event, but for what it knows of its objects
 

@@ -13,11 +13,11 @@ use Rattle.kind_laws.specs.of_event_log.Words.{attempt, accepted_in, bearers_of,
 use Rattle.kind_laws.specs.of_event_log.Events.{refused_next}
 use Rattle.kind_laws.specs.of_event_log.Legal.{has_event}
 use Rattle.kind_laws.specs.of_event_log.Breaks.{Among}
-use Rattle.numbered.specs.of_protocol.Numbered.{item_at}
-use Rattle.numbered.specs.of_protocol.Sets.{object_id}
-use Rattle.numbered.specs.of_protocol.Tables.{Beside, ByTask, ObjectSource, Object, OwnTask, Execution, WasPut, Worker, first_by, is_pending_task, task_of, with_fault, with_task}
-use Rattle.numbered.specs.of_protocol.Steps.{WorkerContext, with_worker}
-use Rattle.numbered.specs.of_protocol.Asking.{rests}
+use Rattle.step_laws.specs.of_protocol.Numbered.{item_at}
+use Rattle.step_laws.specs.of_protocol.Sets.{object_id}
+use Rattle.step_laws.specs.of_protocol.Tables.{Beside, ByTask, ObjectSource, Object, OwnTask, Execution, WasPut, Worker, first_by, is_pending_task, task_of, with_fault, with_task}
+use Rattle.step_laws.specs.of_protocol.Steps.{WorkerContext, with_worker}
+use Rattle.step_laws.specs.of_protocol.Asking.{rests}
 use Rattle.protocol_legal.specs.Past.{Asking, Past}
 use Rattle.protocol_legal.specs.Lost.{IsKnownFault}
 use Rattle.protocol_legal.specs.Grows.{Grows}
@@ -36,7 +36,7 @@ use Rattle.protocol_legal.proofs.Asking.{OwnTaskAt, kept_stop, known_task}
 use Rattle.protocol_legal.proofs.EndRows.{all_known}
 use Rattle.protocol_legal.proofs.Accepting.{IsPlaceOf, RestedRow, not_first, not_here, outside, place_of, rested, rested_row, results, was_result}
 use Rattle.protocol_legal.proofs.Resolving.{all_allowed, event_changes, event_of, goes_to, none_in, resolved-length, resolved_entries, resolved_in_row, resolved_once, resolved_out, resolved_row, resolved_rows, row_in, row_out, rows_at, entry_at, sound_of, CanResolve, SoundEvent}
-use Rattle.numbered.proofs.Lists.{changed-length}
+use Rattle.step_laws.proofs.Lists.{changed-length}
 
 module _ (test : Object → Bool) (cause : ℕ → ℕ → Fault) where
   no_event_with : (w j : ℕ) (r : Option Object) (es : List Entry) → (has_event es ≡ false) × (refused_next es ≡ false) → (has_event (entry_at test cause w j r ++ es) ≡ false) × (refused_next (entry_at test cause w j r ++ es) ≡ false)

@@ -5,10 +5,10 @@ use Rattle.meaning.specs.Values.{Birth, Id}
 use Rattle.kind_laws.specs.of_event_log.Entries.{Entry}
 use Rattle.kind_laws.specs.of_event_log.Breaks.{Among}
 use Rattle.kind_laws.specs.of_event_log.Words.{bearers_of}
-use Rattle.numbered.specs.of_protocol.Numbered.{item_at, changed_at}
-use Rattle.numbered.specs.of_protocol.Sets.{object_id}
-use Rattle.numbered.specs.of_protocol.Tables.{Beside, ByTask, ObjectSource, Object, Execution, WasPut, Worker, first_by, without_askers}
-use Rattle.numbered.specs.of_protocol.Steps.{WorkerContext, with_worker}
+use Rattle.step_laws.specs.of_protocol.Numbered.{item_at, changed_at}
+use Rattle.step_laws.specs.of_protocol.Sets.{object_id}
+use Rattle.step_laws.specs.of_protocol.Tables.{Beside, ByTask, ObjectSource, Object, Execution, WasPut, Worker, first_by, without_askers}
+use Rattle.step_laws.specs.of_protocol.Steps.{WorkerContext, with_worker}
 use Rattle.protocol_legal.specs.Past.{Asking, Past}
 use Rattle.protocol_legal.specs.Knows.{HasAccepted, HasStopped, IsPartOf, IsPlaced, IsSpent, KnowsSource, KnowsPut, KnowsResult, kept_until, listed, once}
 use Rattle.protocol_legal.specs.Names.{NamesOf}
@@ -34,8 +34,8 @@ module _ (f : Frame) (asked : List Asking) (h : WorkerContext) (s : SoundHere f 
 
   moves : (z : Object) → item_at h.worker.objects k ≡ Some z → (m : ObjectSource) → z.source ≡ m → KnowsSource p h.worker.node ys o z m → KnowsSource p h.worker.node ys o (fn z) m
   moves z i WasPut e km = puts z i km
-  moves z i (ByTask task) e km = (km.0, (km.1.0, km.1.1, km.1.2, km.1.3, results z i (λ d. absurd (cc)) (object_id h.me k) task.spec km.1.0 km.1.3 (Rattle.numbered.specs.of_protocol.Tables.is_pending_task task) km.1.4))
-  moves z i (Beside n) e km = (km.0, km.1, (km.2.0, km.2.1, km.2.2, km.2.3, results z i (λ d. absurd (cc)) (object_id h.me n) km.0.spec km.2.0 km.2.3 (Rattle.numbered.specs.of_protocol.Tables.is_pending_task km.0) km.2.4))
+  moves z i (ByTask task) e km = (km.0, (km.1.0, km.1.1, km.1.2, km.1.3, results z i (λ d. absurd (cc)) (object_id h.me k) task.spec km.1.0 km.1.3 (Rattle.step_laws.specs.of_protocol.Tables.is_pending_task task) km.1.4))
+  moves z i (Beside n) e km = (km.0, km.1, (km.2.0, km.2.1, km.2.2, km.2.3, results z i (λ d. absurd (cc)) (object_id h.me n) km.0.spec km.2.0 km.2.3 (Rattle.step_laws.specs.of_protocol.Tables.is_pending_task km.0) km.2.4))
 
   pub changed_sound : SoundHere f asked (with_worker h (with_changed h.worker k fn))
   changed_sound =
@@ -73,7 +73,7 @@ plain_result log o first place pending z v es ep ef er ek r = record {
 }
   where
     placed : (number : ℕ) → IsPlaced log first number z ⊎ IsSpent log first → IsPlaced log first number v ⊎ IsSpent log first
-    placed number (inl a) = inl (record { last = a.last; worker = a.worker; runs = a.runs; node = a.node; home = a.home; there = λ n. elim (a.there (sym ek ∙ n)) [ inl e ↦ inl (ap (λ ps. Rattle.numbered.specs.of_protocol.Sets.has ps a.node) ep ∙ e) | inr l ↦ inr l ] })
+    placed number (inl a) = inl (record { last = a.last; worker = a.worker; runs = a.runs; node = a.node; home = a.home; there = λ n. elim (a.there (sym ek ∙ n)) [ inl e ↦ inl (ap (λ ps. Rattle.step_laws.specs.of_protocol.Sets.has ps a.node) ep ∙ e) | inr l ↦ inr l ] })
     placed number (inr a) = inr a
 
 -- askers are no part of what is known

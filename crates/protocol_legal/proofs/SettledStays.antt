@@ -8,15 +8,15 @@ use Rattle.meaning.proofs.BirthLaws.{at_test}
 use Rattle.kind_laws.specs.of_event_log.Entries.{Fault, OwnerDied}
 use Rattle.kind_laws.specs.of_event_log.Words.{same_attempt}
 use Rattle.kind_laws.specs.of_event_log.Entries.{main_attempt}
-use Rattle.numbered.specs.of_protocol.Numbered.{item_at, changed_at}
-use Rattle.numbered.specs.of_protocol.Sets.{fault, has, is_empty}
-use Rattle.numbered.specs.of_protocol.Stores.{copy_in, looked_up}
-use Rattle.numbered.specs.of_protocol.Tables.{Fetching, Object, OwnTask, Phase, Ready, Out, Waits, HasEnded, HasFaulted, Execution, first_by, has_content, has_stopped, is_lost, is_pending_task, is_waiting_for, knows_dead, live_location, owner_of, settled_number, task_by, with_fault, with_task, without_askers, without_location, without_locations}
-use Rattle.numbered.specs.of_protocol.Steps.{WorkerContext, changes, object_at, own_id, own_object, store_here, with_phase, with_run, with_store}
-use Rattle.numbered.specs.of_protocol.Runs.{faults, faults_at, faults_by, gets, gets_at, gets_by, gives_slot_back, leaves, leaves_by, tells, tells_stop, is_heard, with_fetching, with_fetching_at, with_fetching_by}
-use Rattle.numbered.specs.of_protocol.Asking.{answers_faulted, answers_faulted_by, answers_gone, faults_if_waiting, next_attempt, requests, resolves, tells_gone}
-use Rattle.numbered.specs.of_protocol.Recovery.{first_stop, gives_up, is_lost_here, members, recovers, recovers_by, remakes, remakes_by, remakes_one}
-use Rattle.numbered.specs.of_protocol.Locations.{answers_settled, answers_settled_by, looks_at_locations, looks_elsewhere, looks_elsewhere_by, looks_for, looks_for_by, looks_here_by, needs_at, needs_by, needs_own, needs_own_if_waiting, needs_released, tells_locations}
+use Rattle.step_laws.specs.of_protocol.Numbered.{item_at, changed_at}
+use Rattle.step_laws.specs.of_protocol.Sets.{fault, has, is_empty}
+use Rattle.step_laws.specs.of_protocol.Stores.{copy_in, looked_up}
+use Rattle.step_laws.specs.of_protocol.Tables.{Fetching, Object, OwnTask, Phase, Ready, Out, Waits, HasEnded, HasFaulted, Execution, first_by, has_content, has_stopped, is_lost, is_pending_task, is_waiting_for, knows_dead, live_location, owner_of, settled_number, task_by, with_fault, with_task, without_askers, without_location, without_locations}
+use Rattle.step_laws.specs.of_protocol.Steps.{WorkerContext, changes, object_at, own_id, own_object, store_here, with_phase, with_run, with_store}
+use Rattle.step_laws.specs.of_protocol.Runs.{faults, faults_at, faults_by, gets, gets_at, gets_by, gives_slot_back, leaves, leaves_by, tells, tells_stop, is_heard, with_fetching, with_fetching_at, with_fetching_by}
+use Rattle.step_laws.specs.of_protocol.Asking.{answers_faulted, answers_faulted_by, answers_gone, faults_if_waiting, next_attempt, requests, resolves, tells_gone}
+use Rattle.step_laws.specs.of_protocol.Recovery.{first_stop, gives_up, is_lost_here, members, recovers, recovers_by, remakes, remakes_by, remakes_one}
+use Rattle.step_laws.specs.of_protocol.Locations.{answers_settled, answers_settled_by, looks_at_locations, looks_elsewhere, looks_elsewhere_by, looks_for, looks_for_by, looks_here_by, needs_at, needs_by, needs_own, needs_own_if_waiting, needs_released, tells_locations}
 use Rattle.protocol_legal.proofs.Numbers.{item-elsewhere, item-same}
 
 -- the object of that serial has a content
@@ -57,7 +57,7 @@ leaves_by_same h (Some run) =
     at_test (λ b. (if b then leaves h (record run { is_over = true }) else h).worker.objects ≡ h.worker.objects) (has_stopped run.phase && not run.is_over && is_empty run.holds) (λ b. leaves_same h (record run { is_over = true })) (λ b. refl)
 
 faults_at_same : (h : WorkerContext) (run : Execution) (f : Fault) (phase : Phase) → (faults_at h run f phase).worker.objects ≡ h.worker.objects
-faults_at_same h run f (Waits y g) = leaves_by_same (gives_slot_back (Rattle.numbered.specs.of_protocol.Steps.logs (with_phase h run (HasFaulted f)) (Rattle.kind_laws.specs.of_event_log.Entries.Faulted run.attempt y f))) (Some (record run { phase = HasFaulted f }))
+faults_at_same h run f (Waits y g) = leaves_by_same (gives_slot_back (Rattle.step_laws.specs.of_protocol.Steps.logs (with_phase h run (HasFaulted f)) (Rattle.kind_laws.specs.of_event_log.Entries.Faulted run.attempt y f))) (Some (record run { phase = HasFaulted f }))
 faults_at_same h run f Ready = refl
 faults_at_same h run f (Out j) = refl
 faults_at_same h run f (HasEnded cs) = refl
@@ -105,7 +105,7 @@ keeps_faults h f j i = subst (λ xs. IsThere xs j) (sym (faults_same h f)) i
 
 tells_gone_same : (h : WorkerContext) (ws : List ℕ) (o : Id) (g : Fault) → (tells_gone h ws o g).worker.objects ≡ h.worker.objects
 tells_gone_same h [] o g = refl
-tells_gone_same h (w ∷ ws) o g = tells_gone_same (Rattle.numbered.specs.of_protocol.Steps.says h w (Rattle.numbered.specs.of_protocol.Messages.Gone o g)) ws o g
+tells_gone_same h (w ∷ ws) o g = tells_gone_same (Rattle.step_laws.specs.of_protocol.Steps.says h w (Rattle.numbered.specs.of_protocol.Messages.Gone o g)) ws o g
 
 keeps_waiting : (h : WorkerContext) (o : Id) (f : Fault) → Keeps h (faults_if_waiting h o f)
 keeps_waiting h o f = at_test (λ b. Keeps h (if b then faults h f else h)) (is_waiting_for h.worker o) (λ b. keeps_faults h f) (λ b j i. i)
@@ -126,7 +126,7 @@ keeps_faulted h o = by (object_at h o)
 -- ---- a lost object is made again
 
 keeps_requests : (h : WorkerContext) (o : Id) (task : OwnTask) → Keeps h (requests h o task)
-keeps_requests h o task j i = keeps_changed h.worker.objects o.serial (with_task (record task { progress = Rattle.numbered.specs.of_protocol.Tables.AskedAt 0 h.worker.node })) (λ z. refl) j i
+keeps_requests h o task j i = keeps_changed h.worker.objects o.serial (with_task (record task { progress = Rattle.step_laws.specs.of_protocol.Tables.AskedAt 0 h.worker.node })) (λ z. refl) j i
 
 keeps_remakes_by : (h : WorkerContext) (k : ℕ) (r : Option OwnTask) → Keeps h (remakes_by h k r)
 keeps_remakes_by h k None = λ j i. i
@@ -207,7 +207,7 @@ keeps_needs h o =
 
 tells_locations_same : (h : WorkerContext) (ws : List ℕ) (o : Id) (x : Object) → (tells_locations h ws o x).worker.objects ≡ h.worker.objects
 tells_locations_same h [] o x = refl
-tells_locations_same h (w ∷ ws) o x = tells_locations_same (Rattle.numbered.specs.of_protocol.Steps.says h w (Rattle.numbered.specs.of_protocol.Messages.At o (settled_number x) x.locations x.kept)) ws o x
+tells_locations_same h (w ∷ ws) o x = tells_locations_same (Rattle.step_laws.specs.of_protocol.Steps.says h w (Rattle.numbered.specs.of_protocol.Messages.At o (settled_number x) x.locations x.kept)) ws o x
 
 -- whoever waits for an object is answered
 pub keeps_answers : (h : WorkerContext) (o : Id) → Keeps h (answers_settled h o)

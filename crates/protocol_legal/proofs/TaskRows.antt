@@ -5,9 +5,9 @@ use Rattle.std.proofs.lemmas.Bool.{eqb-true}
 use Rattle.std.proofs.lemmas.Bool.Decides.{nat_tests}
 use Rattle.meaning.specs.Values.{Id, results_of}
 use Rattle.meaning.proofs.BirthLaws.{at_test}
-use Rattle.numbered.specs.of_protocol.Numbered.{item_at, changed_at}
-use Rattle.numbered.specs.of_protocol.Sets.{object_id}
-use Rattle.numbered.specs.of_protocol.Tables.{Beside, ByTask, ObjectSource, Object, OwnTask, WasPut, Worker, first_by, is_pending_task, is_wanted, task_in, task_of, with_task}
+use Rattle.step_laws.specs.of_protocol.Numbered.{item_at, changed_at}
+use Rattle.step_laws.specs.of_protocol.Sets.{object_id}
+use Rattle.step_laws.specs.of_protocol.Tables.{Beside, ByTask, ObjectSource, Object, OwnTask, WasPut, Worker, first_by, is_pending_task, is_wanted, task_in, task_of, with_task}
 use Rattle.protocol_legal.specs.Past.{Past}
 use Rattle.protocol_legal.specs.Grows.{Grows}
 use Rattle.protocol_legal.specs.Names.{NamesOf}
@@ -131,7 +131,7 @@ module _ (p q : Past) (g : Grows p q) (x : Worker) (w k : ℕ) (ob : Object) (ta
     with_source : (j : ℕ) (z v : Object) → v.bearer ≡ z.bearer → v.fault ≡ z.fault → v.is_released ≡ z.is_released → KnowsObject p x (object_id w j) z → NamesOf q.log (object_id w j) v → KnowsSource q x.node ys (object_id w j) v v.source → KnowsObject q y (object_id w j) v
     with_source j z v eb ef er h na m = record {
       bearer = subst (λ b. Rattle.kind_laws.specs.of_event_log.Breaks.Among b (Rattle.kind_laws.specs.of_event_log.Words.bearers_of (object_id w j) q.log)) (sym eb) (word_grows p q g z.bearer (Rattle.kind_laws.specs.of_event_log.Words.bearer_in (object_id w j)) h.bearer);
-      stopped = subst (λ b. Rattle.protocol_legal.specs.Knows.HasStopped q.log b ⊎ ((run : Rattle.numbered.specs.of_protocol.Tables.Execution) × (x.run ≡ Some run) × (run.attempt ≡ b))) (sym eb) (stops_or_runs p q g x y z.bearer stays h.stopped);
+      stopped = subst (λ b. Rattle.protocol_legal.specs.Knows.HasStopped q.log b ⊎ ((run : Rattle.step_laws.specs.of_protocol.Tables.Execution) × (x.run ≡ Some run) × (run.attempt ≡ b))) (sym eb) (stops_or_runs p q g x y z.bearer stays h.stopped);
       resolved = same_word p q g (Rattle.kind_laws.specs.of_event_log.Words.resolved_in (object_id w j)) (quiet (object_id w j)).resolves ∙ h.resolved ∙ ap Rattle.protocol_legal.specs.Knows.listed (sym ef);
       known = λ f e. g.faults f (h.known f (sym ef ∙ e));
       released = same_word p q g (Rattle.kind_laws.specs.of_event_log.Words.released_in (object_id w j)) (quiet (object_id w j)).releases ∙ h.released ∙ ap (λ b. Rattle.protocol_legal.specs.Knows.once b (object_id w j)) (sym er);

@@ -6,10 +6,10 @@ use Rattle.meaning.specs.Values.{Id}
 use Rattle.kind_laws.specs.of_event_log.Entries.{Entry, Fault, Resolved, RetriesUsed}
 use Rattle.kind_laws.specs.of_event_log.Words.{attempt, resolved_in, resolves_of}
 use Rattle.kind_laws.specs.of_event_log.Breaks.{Among, RetriesAreUsed, breaks_of}
-use Rattle.numbered.specs.of_protocol.Sets.{fault, is_empty, object_id}
-use Rattle.numbered.specs.of_protocol.Tables.{Object, OwnTask, is_nowhere, is_pending_task, is_wanted, may_try_again}
-use Rattle.numbered.specs.of_protocol.Steps.{WorkerContext, each_result, with_task_of}
-use Rattle.numbered.specs.of_protocol.Asking.{resolves_used, resolves_used_by, rests}
+use Rattle.step_laws.specs.of_protocol.Sets.{fault, is_empty, object_id}
+use Rattle.step_laws.specs.of_protocol.Tables.{Object, OwnTask, is_nowhere, is_pending_task, is_wanted, may_try_again}
+use Rattle.step_laws.specs.of_protocol.Steps.{WorkerContext, each_result, with_task_of}
+use Rattle.step_laws.specs.of_protocol.Asking.{resolves_used, resolves_used_by, rests}
 use Rattle.protocol_legal.specs.Past.{Asking, Past, past}
 use Rattle.protocol_legal.specs.Lost.{IsKnownFault}
 use Rattle.protocol_legal.specs.Grows.{Grows}

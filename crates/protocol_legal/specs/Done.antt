@@ -3,8 +3,8 @@ use Rattle.std.specs.Prelude.{◌≡◌, [], ◌++◌, ◌⊎◌}
 use Rattle.kind_laws.specs.of_event_log.Entries.{main_attempt}
 use Rattle.kind_laws.specs.of_event_log.Rules.{Setting}
 use Rattle.meaning.specs.Meaning.{replay}
-use Rattle.numbered.specs.of_protocol.Jobs.{Outcomes, stop_of}
-use Rattle.numbered.specs.of_protocol.Tables.{Execution}
+use Rattle.step_laws.specs.of_protocol.Jobs.{Outcomes, stop_of}
+use Rattle.step_laws.specs.of_protocol.Tables.{Execution}
 
 -- the outcomes go on as the attempt's replay on its answers does
 abbrev pub IsTrue : Setting → Execution → Outcomes → Type 0

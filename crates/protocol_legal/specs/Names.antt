@@ -5,7 +5,7 @@ use Rattle.meaning.specs.Values.{Id}
 use Rattle.kind_laws.specs.of_event_log.Entries.{Entry}
 use Rattle.kind_laws.specs.of_event_log.Events.{is_killed}
 use Rattle.kind_laws.specs.of_event_log.Holding.{HasId}
-use Rattle.numbered.specs.of_protocol.Tables.{Holding, Object}
+use Rattle.step_laws.specs.of_protocol.Tables.{Holding, Object}
 
 -- the entry has the id, and its owner is dead
 abbrev pub IsDeadHolder : List Entry → Id → Id → Type 0

@@ -8,20 +8,20 @@ use Rattle.kind_laws.specs.of_event_log.Holding.{IsHeld}
 use Rattle.kind_laws.specs.of_event_log.Legal.{Happens}
 use Rattle.kind_laws.specs.of_event_log.Causes.{IsRefusal}
 use Rattle.kind_laws.specs.of_event_log.Rules.{Receiver, Setting}
-use Rattle.numbered.specs.of_protocol.Commits.{claim_step, commit_step}
-use Rattle.numbered.specs.of_protocol.Deliveries.{reached}
-use Rattle.numbered.specs.of_protocol.Events.{happens, killed, node_killed, with_committed}
-use Rattle.numbered.specs.of_protocol.Jobs.{JobRecord, Nothing, Outcomes}
-use Rattle.numbered.specs.of_protocol.Messages.{Envelope, Message, Endpoint, TheNode, TheWorker}
-use Rattle.numbered.specs.of_protocol.Nodes.{Node}
-use Rattle.numbered.specs.of_protocol.Notices.{notice_node_step, notice_step}
-use Rattle.numbered.specs.of_protocol.Numbered.{item_at}
-use Rattle.numbered.specs.of_protocol.Releases.{release_step}
-use Rattle.numbered.specs.of_protocol.Slots.{node_reached}
-use Rattle.numbered.specs.of_protocol.Steps.{WorkerContext}
-use Rattle.numbered.specs.of_protocol.Tables.{Out, Ready, Execution, Worker}
-use Rattle.numbered.specs.of_protocol.Ticks.{tick_step}
-use Rattle.numbered.specs.of_protocol.Cluster.{Transition, ClusterState, after_node, after_worker, here, node_at, there, worker_at}
+use Rattle.step_laws.specs.of_protocol.Commits.{claim_step, commit_step}
+use Rattle.step_laws.specs.of_protocol.Deliveries.{reached}
+use Rattle.step_laws.specs.of_protocol.Events.{happens, killed, node_killed, with_committed}
+use Rattle.step_laws.specs.of_protocol.Jobs.{JobRecord, Nothing, Outcomes}
+use Rattle.step_laws.specs.of_protocol.Messages.{Envelope, Message, Endpoint, TheNode, TheWorker}
+use Rattle.step_laws.specs.of_protocol.Nodes.{Node}
+use Rattle.step_laws.specs.of_protocol.Notices.{notice_node_step, notice_step}
+use Rattle.step_laws.specs.of_protocol.Numbered.{item_at}
+use Rattle.step_laws.specs.of_protocol.Releases.{release_step}
+use Rattle.step_laws.specs.of_protocol.Slots.{node_reached}
+use Rattle.step_laws.specs.of_protocol.Steps.{WorkerContext}
+use Rattle.step_laws.specs.of_protocol.Tables.{Out, Ready, Execution, Worker}
+use Rattle.step_laws.specs.of_protocol.Ticks.{tick_step}
+use Rattle.step_laws.specs.of_protocol.Cluster.{Transition, ClusterState, after_node, after_worker, here, node_at, there, worker_at}
 use Rattle.protocol_legal.specs.Done.{IsDone}
 use Rattle.protocol_legal.specs.During.{Frame, HearsNoDeath, SoundHere, past_of, so_far}
 use Rattle.protocol_legal.specs.Frame.{Arrives, ComesTo, IsOwnEvent, JobsFollow, in_event}

@@ -14,7 +14,7 @@ use Rattle.event_files.specs.Recorded.{header, recorded_file}
 use Rattle.event_files.specs.declared.event_file.EventFile.TheVariants as files
 use Rattle.event_files.specs.declared.line.Line.{Line}
 use Rattle.event_files.specs.declared.line.Line.TheVariants as lines
-use Rattle.histories.specs.Recorded.{recorded_in}
+use Rattle.event_files.specs.LogHistory.{recorded_in}
 use Rattle.replay_laws.proofs.of_migration.Alike.{migrated_is_same}
 use Rattle.replay_laws.proofs.of_migration.Migrating.{histories_replay}
 use Rattle.replay_laws.specs.of_migration.Migration.{Begins}

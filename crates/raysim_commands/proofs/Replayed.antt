@@ -3,7 +3,7 @@ use Rattle.std.proofs.Common.{◌≡◌, ◌≤◌, ℕ, false, List, refl, subs
 use Rattle.meaning.specs.Syntax.{Script}
 use Rattle.script_check.specs.Scripts.{IsWellTyped}
 use Rattle.event_files.specs.declared.plan.PlanLine.{PlanLine}
-use Rattle.histories.specs.Recorded.{recorded_in}
+use Rattle.event_files.specs.LogHistory.{recorded_in}
 use Rattle.run_commands.specs.of_protocol_board.Cores.{RunState, Size}
 use Rattle.replay_laws.specs.Replaying.{CameSo, IsFirst, RunsReplay, RunsReplayToThemselves}
 use Rattle.replay_laws.specs.of_seats.Ends.{IsAtLimit, IsEnd, IsOver}

@@ -8,7 +8,7 @@ use Rattle.event_files.specs.Lines.{IsLine, line_text}
 use Rattle.event_files.specs.Recorded.{header, recorded_file}
 use Rattle.event_files.specs.declared.event_file.EventFile.TheVariants as files
 use Rattle.event_files.specs.declared.line.Line.{Line}
-use Rattle.histories.specs.Recorded.{recorded_in}
+use Rattle.event_files.specs.LogHistory.{recorded_in}
 use Rattle.run_commands.specs.of_protocol_board.Cores.{Size}
 use Rattle.run_commands.specs.of_protocol_board.Replays.{Play, PlaysFile}
 use Rattle.raysim_streams.specs.declared.Failure.TheVariants.{Read, Write, Closed}

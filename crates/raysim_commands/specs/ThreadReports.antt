@@ -23,7 +23,7 @@ use Rattle.run_commands.specs.declared.form.Form.{Form}
 use Rattle.run_commands.specs.Reports.{IsAsSerialIn, IsReportIn, account_of}
 use Rattle.script_commands.specs.Scripts.{Counts, FailedIn, IsAllowed, IsNoScriptFor, IsScript}
 use Rattle.run_commands.specs.SimReports.{IfBoth, first_play}
-use Rattle.histories.specs.Recorded.{recorded_in}
+use Rattle.event_files.specs.LogHistory.{recorded_in}
 
 -- the bytes are a plan with these lines
 abbrev pub IsPlan : List ℕ → List PlanLine → Type 0

@@ -10,8 +10,7 @@ ghost use Rattle.run_commands.specs.SimReports.{IfBoth};
 ghost use Rattle.raysim_commands.specs.Migrations.{ExplainsLines, ExplainsMigration, IsHistoryOf, IsLinesStop, IsMigrated, IsMigrationBegun};
 
 use event_files::laws::one_bad_line;
-use event_files::{EventError, Line, parse_events};
-use histories::history;
+use event_files::{EventError, Line, history, parse_events};
 use raysim_streams::{CommandRefusal, Sink, Source, put_all, read_at_most};
 use run_commands::{Cluster, Core, Replay, ReplayStop};
 use script_commands::read_compiled;

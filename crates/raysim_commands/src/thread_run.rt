@@ -8,8 +8,7 @@ ghost use Rattle.replay_laws.specs.of_seats.Ends.{IsAtLimit};
 ghost use Rattle.replay_laws.specs.of_seats.Seated.{AreFrom};
 ghost use Rattle.raysim_commands.specs.ThreadReports.{AreOutputs, IsRunOn, IsStop};
 
-use event_files::RunPlan;
-use histories::history;
+use event_files::{RunPlan, history};
 use log_entries::Refusal as EventRefusal;
 use raysim_streams::CommandRefusal;
 use replay_laws::law::runs_replay;

@@ -9,7 +9,7 @@ use Rattle.segment.specs.Jobs.{Done}
 use Rattle.event_log.specs.Entries.{Commit, Entry, Event, In, Refused}
 use Rattle.event_log.specs.Entries.{NoJob, Refusal}
 use Rattle.event_log.specs.Rules.{Setting}
-use Rattle.histories.specs.Recorded.{recorded_in}
+use Rattle.event_files.specs.LogHistory.{recorded_in}
 use Rattle.protocol.specs.Answers.{Answer, answer, decided, logged}
 use Rattle.protocol.specs.Jobs.{JobRecord, CommitInput}
 use Rattle.protocol.specs.Numbered.{item_at}

@@ -11,7 +11,7 @@ use Rattle.event_log.specs.Events.{claim_in}
 use Rattle.event_log.specs.Rules.{Setting}
 use Rattle.log_entries.specs.declared.refusal.Refusal.{Refusal}
 use Rattle.log_entries.specs.declared.refusal.Refusal.TheVariants as refusals
-use Rattle.numbered.proofs.Lists.{changed-length, item_within}
+use Rattle.step_laws.proofs.Lists.{changed-length, item_within}
 use Rattle.protocol.specs.Answers.{Answer, Refuses, Step, Takes, answer, decided, given_out, logged, takes, whole_after}
 use Rattle.protocol.specs.Events.{happens}
 use Rattle.protocol.specs.Jobs.{JobRecord, CommitInput, Job}

@@ -3,7 +3,7 @@ use Rattle.std.specs.Prelude.{◌≡◌, ◌<◌, ◌≤◌, ℕ, false, List, [
 use Rattle.meaning.specs.Mains.{KeepsMainApart}
 use Rattle.meaning.specs.Syntax.{Script}
 use Rattle.event_log.specs.Entries.{Entry}
-use Rattle.histories.specs.Recorded.{recorded_in}
+use Rattle.event_files.specs.LogHistory.{recorded_in}
 use Rattle.migration.specs.of_protocol_board.Cores.{RunState, first_state}
 use Rattle.migration.specs.of_protocol_board.Replays.{Play, PlaysHistory}
 use Rattle.migration.specs.of_run_paths.Handing.{HandsInOnce}

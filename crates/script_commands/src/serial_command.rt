@@ -9,10 +9,10 @@ ghost use Rattle.report_laws.specs.Serial.{serial_report, serial_status};
 ghost use Rattle.script_commands.specs.SerialReports.{status_of, IsReported, IsBegun};
 
 use crate::script::read_checked;
+use evaluation::run_serial;
 use raysim_streams::{CommandRefusal, Sink, Source, put_all};
 use report::write_main_lines;
 use script_check::Checked;
-use serial::run_serial;
 use std::alloc::Global;
 use values::Content;
 

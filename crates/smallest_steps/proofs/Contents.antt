@@ -6,15 +6,15 @@ use Rattle.std.proofs.lemmas.Bool.Decides.{nat_tests}
 use Rattle.meaning.proofs.BirthLaws.{at_test}
 use Rattle.meaning.specs.Runs.{next_id}
 use Rattle.meaning.specs.Values.{Id}
-use Rattle.numbered.proofs.Lists.{changed_cases}
-use Rattle.numbered.specs.of_protocol.Ends.{first_result, settles}
-use Rattle.numbered.specs.of_protocol.Messages.{EndedResult}
-use Rattle.numbered.specs.of_protocol.Locations.{answers_settled, answers_settled_by}
-use Rattle.numbered.specs.of_event_log.Entries.{Faulted}
-use Rattle.numbered.specs.of_protocol.Runs.{gives_slot_back}
-use Rattle.numbered.specs.of_protocol.Sets.{rest_of}
-use Rattle.numbered.specs.of_protocol.Steps.{changes, WorkerContext, logs, own_id, own_object, with_phase}
-use Rattle.numbered.specs.of_protocol.Tables.{HasFaulted, is_nowhere, Object, with_content}
+use Rattle.step_laws.proofs.Lists.{changed_cases}
+use Rattle.step_laws.specs.of_protocol.Ends.{first_result, settles}
+use Rattle.step_laws.specs.of_protocol.Messages.{EndedResult}
+use Rattle.step_laws.specs.of_protocol.Locations.{answers_settled, answers_settled_by}
+use Rattle.step_laws.specs.of_event_log.Entries.{Faulted}
+use Rattle.step_laws.specs.of_protocol.Runs.{gives_slot_back}
+use Rattle.step_laws.specs.of_protocol.Sets.{rest_of}
+use Rattle.step_laws.specs.of_protocol.Steps.{changes, WorkerContext, logs, own_id, own_object, with_phase}
+use Rattle.step_laws.specs.of_protocol.Tables.{HasFaulted, is_nowhere, Object, with_content}
 use Rattle.smallest_steps.proofs.Known.{own_here, somewhere}
 use Rattle.smallest_steps.proofs.Needing as N
 use Rattle.smallest_steps.proofs.Over as O

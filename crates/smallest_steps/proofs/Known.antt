@@ -6,23 +6,23 @@ use Rattle.std.proofs.lemmas.Bool.{eqb-true, not-true}
 use Rattle.sequence.proofs.Places.{and_left, and_right, slice_get-append, slice_get-last}
 use Rattle.meaning.proofs.BirthLaws.{at_test}
 use Rattle.meaning.specs.Values.{Birth, Id, Outcome, results_of}
-use Rattle.numbered.specs.of_event_log.Entries.{Attempt}
-use Rattle.numbered.specs.of_event_log.Words.{attempt, same_attempt}
-use Rattle.numbered.specs.Counting.{changed, item_of}
-use Rattle.numbered.proofs.Lists.{counted_repeated_at, joined_cases}
-use Rattle.numbered.proofs.Places.{changed_is, counted, item_is, placed_changed}
-use Rattle.numbered.specs.of_protocol.Numbered.{changed_at, item_at}
-use Rattle.numbered.specs.of_protocol.Sets.{is_empty, repeated}
-use Rattle.numbered.specs.of_protocol.Steps.{changes, each_from, WorkerContext, is_own, object_at, own_id, own_object, with_run, with_task_of}
-use Rattle.numbered.specs.of_protocol.Tables.{AskedAt, AtRest, Beside, ByTask, Fetching, has_content, HasEnded, HasFaulted, is_nowhere, is_pending_task, is_same_id}
-use Rattle.numbered.specs.of_protocol.Tables.{is_waiting_for, is_whole, knows_dead, needed_by, new_object, new_task, Object, object_needed, Out, OwnTask, Phase, locations_for}
-use Rattle.numbered.specs.of_protocol.Tables.{Progress, Ready, Execution, RunsOn, task_in, task_of, Waits, with_dead_holder, with_holder, with_task, Worker}
-use Rattle.numbered.specs.of_protocol.Runs.{hears_by, with_fetching, with_fetching_at, with_fetching_by}
-use Rattle.numbered.specs.of_protocol.Asking.{if_asked, stands_at}
-use Rattle.numbered.specs.of_protocol.Holders.{adds_holder, awaits_hold_by, holding, holds_id, holds_ids, sends_hold}
-use Rattle.numbered.specs.of_protocol.Commits.{each_holds, next_id_here, task_objects, with_objects}
-use Rattle.numbered.specs.of_protocol.Ends.{if_present}
-use Rattle.numbered.specs.of_protocol.Notices.{runs_on_node, runs_on_worker}
+use Rattle.step_laws.specs.of_event_log.Entries.{Attempt}
+use Rattle.step_laws.specs.of_event_log.Words.{attempt, same_attempt}
+use Rattle.step_laws.specs.Counting.{changed, item_of}
+use Rattle.step_laws.proofs.Lists.{counted_repeated_at, joined_cases}
+use Rattle.step_laws.proofs.Places.{changed_is, counted, item_is, placed_changed}
+use Rattle.step_laws.specs.of_protocol.Numbered.{changed_at, item_at}
+use Rattle.step_laws.specs.of_protocol.Sets.{is_empty, repeated}
+use Rattle.step_laws.specs.of_protocol.Steps.{changes, each_from, WorkerContext, is_own, object_at, own_id, own_object, with_run, with_task_of}
+use Rattle.step_laws.specs.of_protocol.Tables.{AskedAt, AtRest, Beside, ByTask, Fetching, has_content, HasEnded, HasFaulted, is_nowhere, is_pending_task, is_same_id}
+use Rattle.step_laws.specs.of_protocol.Tables.{is_waiting_for, is_whole, knows_dead, needed_by, new_object, new_task, Object, object_needed, Out, OwnTask, Phase, locations_for}
+use Rattle.step_laws.specs.of_protocol.Tables.{Progress, Ready, Execution, RunsOn, task_in, task_of, Waits, with_dead_holder, with_holder, with_task, Worker}
+use Rattle.step_laws.specs.of_protocol.Runs.{hears_by, with_fetching, with_fetching_at, with_fetching_by}
+use Rattle.step_laws.specs.of_protocol.Asking.{if_asked, stands_at}
+use Rattle.step_laws.specs.of_protocol.Holders.{adds_holder, awaits_hold_by, holding, holds_id, holds_ids, sends_hold}
+use Rattle.step_laws.specs.of_protocol.Commits.{each_holds, next_id_here, task_objects, with_objects}
+use Rattle.step_laws.specs.of_protocol.Ends.{if_present}
+use Rattle.step_laws.specs.of_protocol.Notices.{runs_on_node, runs_on_worker}
 
 -- ---- numbered lists
 

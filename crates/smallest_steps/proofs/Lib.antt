@@ -8,5 +8,5 @@ pub mod Moves
 pub mod Plain
 pub mod SlotMoves
 pub mod NodeMoves
-pub use Rattle.numbered.proofs.of_event_log as of_event_log
-pub use Rattle.numbered.proofs as of_numbered
+pub use Rattle.step_laws.proofs.of_event_log as of_event_log
+pub use Rattle.step_laws.proofs as of_step_laws

@@ -3,49 +3,49 @@ use Rattle.std.proofs.Common.{ap, append-nil, append_assoc, arith, inl, inr, ref
 use Rattle.std.specs.Prelude.{[], Bool, false, if◌then◌else◌, is_none, is_some, length, List, map, None, not, Option, Some, suc, true, zero, ℕ, ◌&&◌, ◌+◌}
 use Rattle.std.specs.Prelude.{◌<◌, ◌==◌, ◌∷◌, ◌≡◌, ◌≤◌}
 use Rattle.meaning.specs.Values.{Birth, Id, Outcome, Put, results_of, Task, Value}
-use Rattle.numbered.specs.of_values.Listed.{each_once, ids_in_outcome}
+use Rattle.step_laws.specs.of_values.Listed.{each_once, ids_in_outcome}
 use Rattle.sequence.proofs.Places.{and_left, and_right}
-use Rattle.numbered.specs.of_event_log.Entries.{Attempt, Entry, Fault, Released, RetriesUsed}
-use Rattle.numbered.specs.of_event_log.Words.{attempt, same_attempt}
-use Rattle.numbered.specs.of_event_log.Holding.{ids_of_birth}
-use Rattle.numbered.specs.of_protocol.Messages.{Ask, At, Back, CopyOf, Elsewhere, EndedResult, Failed, Fetch, Finished, FinishedAck, Give, Gone, Hold, HoldAck, Message}
-use Rattle.numbered.specs.of_protocol.Messages.{Missing, OwnerIsDead, Endpoint, Push, Reason, TheNode, TheWorker, Unhold, Wait, WasReleased, Where}
-use Rattle.numbered.specs.of_protocol.Stores.{copy_in, with_ended}
-use Rattle.numbered.specs.of_protocol.Holders.{adds_holder, awaits_hold_by, collects, drops_dead, drops_dead_by, drops_holders, first_born_first, hold_ack_by}
-use Rattle.numbered.specs.of_protocol.Holders.{hold_ack_reached, hold_reached, hold_reached_by, holding, holds_id, holds_ids, lets_go_of_dead, passes_on, same_holding}
-use Rattle.numbered.specs.of_protocol.Holders.{sends_hold, unhold_reached}
-use Rattle.numbered.specs.of_protocol.Steps.{changes, each_from, each_result, WorkerContext, is_own, logs, logs_all, object_at, own_id, own_object, says, says_to_node, store_here}
-use Rattle.numbered.specs.of_protocol.Steps.{with_phase, with_run, with_store, with_task_of, with_there}
-use Rattle.numbered.specs.of_protocol.Sets.{fault}
-use Rattle.numbered.specs.of_protocol.Tables.{AskedAt, AtRest, chosen_location, Fetching, has_content, HasEnded, HasFaulted, holders_of, Holding}
-use Rattle.numbered.specs.of_protocol.Tables.{is_nowhere, is_waiting_for, is_wanted, knows_dead, needed_by, new_task, Object, Out, owner_of}
-use Rattle.numbered.specs.of_protocol.Tables.{OwnTask, Phase, Progress, put_object, Ready, released, Execution, RunsOn, settled_number, task_of, Waits}
-use Rattle.numbered.specs.of_protocol.Tables.{with_dead_holder, with_holder, with_location, without_holder, without_location, Worker}
+use Rattle.step_laws.specs.of_event_log.Entries.{Attempt, Entry, Fault, Released, RetriesUsed}
+use Rattle.step_laws.specs.of_event_log.Words.{attempt, same_attempt}
+use Rattle.step_laws.specs.of_event_log.Holding.{ids_of_birth}
+use Rattle.step_laws.specs.of_protocol.Messages.{Ask, At, Back, CopyOf, Elsewhere, EndedResult, Failed, Fetch, Finished, FinishedAck, Give, Gone, Hold, HoldAck, Message}
+use Rattle.step_laws.specs.of_protocol.Messages.{Missing, OwnerIsDead, Endpoint, Push, Reason, TheNode, TheWorker, Unhold, Wait, WasReleased, Where}
+use Rattle.step_laws.specs.of_protocol.Stores.{copy_in, with_ended}
+use Rattle.step_laws.specs.of_protocol.Holders.{adds_holder, awaits_hold_by, collects, drops_dead, drops_dead_by, drops_holders, first_born_first, hold_ack_by}
+use Rattle.step_laws.specs.of_protocol.Holders.{hold_ack_reached, hold_reached, hold_reached_by, holding, holds_id, holds_ids, lets_go_of_dead, passes_on, same_holding}
+use Rattle.step_laws.specs.of_protocol.Holders.{sends_hold, unhold_reached}
+use Rattle.step_laws.specs.of_protocol.Steps.{changes, each_from, each_result, WorkerContext, is_own, logs, logs_all, object_at, own_id, own_object, says, says_to_node, store_here}
+use Rattle.step_laws.specs.of_protocol.Steps.{with_phase, with_run, with_store, with_task_of, with_there}
+use Rattle.step_laws.specs.of_protocol.Sets.{fault}
+use Rattle.step_laws.specs.of_protocol.Tables.{AskedAt, AtRest, chosen_location, Fetching, has_content, HasEnded, HasFaulted, holders_of, Holding}
+use Rattle.step_laws.specs.of_protocol.Tables.{is_nowhere, is_waiting_for, is_wanted, knows_dead, needed_by, new_task, Object, Out, owner_of}
+use Rattle.step_laws.specs.of_protocol.Tables.{OwnTask, Phase, Progress, put_object, Ready, released, Execution, RunsOn, settled_number, task_of, Waits}
+use Rattle.step_laws.specs.of_protocol.Tables.{with_dead_holder, with_holder, with_location, without_holder, without_location, Worker}
 use Rattle.meaning.specs.Runs.{ids_from, next_id}
-use Rattle.numbered.specs.of_protocol.Runs.{faults, fetches, finished_ack_reached, gets, gives_slot_back, hears_by, is_heard}
-use Rattle.numbered.specs.of_protocol.Runs.{tells_stop, with_fetching}
-use Rattle.numbered.specs.of_protocol.Asking.{answers_faulted, asks_next, begins, breaks, elsewhere_by, elsewhere_reached}
-use Rattle.numbered.specs.of_protocol.Asking.{faults_if_waiting, given_by, given_reached, if_asked, next_attempt, pushes, resolves_used, resolves_used_by, rests}
-use Rattle.numbered.specs.of_protocol.Asking.{uses_up, with_begun}
-use Rattle.numbered.specs.of_protocol.Recovery.{recovers}
-use Rattle.numbered.specs.of_protocol.Locations.{adds_location, adds_location_by, adds_locations, answered_here, answers_asker, answers_settled, answers_settled_by, answers_unsettled}
-use Rattle.numbered.specs.of_protocol.Locations.{asker_by, at_answers, at_reached, copy_reached, finds_none, goes_to, hands_missing_on, lets_wait}
-use Rattle.numbered.specs.of_protocol.Locations.{makes_copy_known, missing_from, missing_reached}
-use Rattle.numbered.specs.of_protocol.Locations.{needs_own, needs_own_if_waiting, takes_location, takes_location_by}
-use Rattle.numbered.specs.of_protocol.Locations.{tells_released, where_reached}
-use Rattle.numbered.specs.of_protocol.Commits.{asks_where, bears, bears_all, bears_as, bears_put, bears_task, each_holds, keeps_content, keeps_contents, needs}
-use Rattle.numbered.specs.of_protocol.Commits.{next_id_here, rests_if_waiting, task_objects, with_objects}
-use Rattle.numbered.specs.of_protocol.Ends.{accepts, failed_by, failed_reached, fails, finished_by, finished_reached, hears_of_end, if_present, resolves_open}
-use Rattle.numbered.specs.of_protocol.Ends.{resolves_open_by}
-use Rattle.numbered.specs.of_protocol.Notices.{breaks_if, breaks_where, drops_holds, drops_holds_by, drops_stop, drops_stop_by, hears_of_node, hears_of_worker, is_unheard}
-use Rattle.numbered.specs.of_protocol.Notices.{loses_fetch, loses_fetch_at, loses_fetch_by, loses_fetch_of, loses_owner, loses_owner_of, loses_locations, moves_ask}
-use Rattle.numbered.specs.of_protocol.Notices.{moves_ask_at, moves_asks, notice_node_step, notice_step, runs_on_node, runs_on_worker, with_dead_node, with_dead_worker}
-use Rattle.numbered.specs.of_protocol.Ticks.{asks_again, asks_location_again, sends_holds, sends_run, sends_stop, sends_task, sends_task_at, sends_tasks, tick_step}
-use Rattle.numbered.specs.of_protocol.Releases.{drops_copies, entries_made, going_with, lets_all_go, lets_go, lets_go_of, marks_released, may_release, release_pass}
-use Rattle.numbered.specs.of_protocol.Releases.{release_passes, release_step, releases_all, releases_by}
-use Rattle.numbered.specs.of_protocol.Deliveries.{reached, reached_from_node, reached_from_worker}
+use Rattle.step_laws.specs.of_protocol.Runs.{faults, fetches, finished_ack_reached, gets, gives_slot_back, hears_by, is_heard}
+use Rattle.step_laws.specs.of_protocol.Runs.{tells_stop, with_fetching}
+use Rattle.step_laws.specs.of_protocol.Asking.{answers_faulted, asks_next, begins, breaks, elsewhere_by, elsewhere_reached}
+use Rattle.step_laws.specs.of_protocol.Asking.{faults_if_waiting, given_by, given_reached, if_asked, next_attempt, pushes, resolves_used, resolves_used_by, rests}
+use Rattle.step_laws.specs.of_protocol.Asking.{uses_up, with_begun}
+use Rattle.step_laws.specs.of_protocol.Recovery.{recovers}
+use Rattle.step_laws.specs.of_protocol.Locations.{adds_location, adds_location_by, adds_locations, answered_here, answers_asker, answers_settled, answers_settled_by, answers_unsettled}
+use Rattle.step_laws.specs.of_protocol.Locations.{asker_by, at_answers, at_reached, copy_reached, finds_none, goes_to, hands_missing_on, lets_wait}
+use Rattle.step_laws.specs.of_protocol.Locations.{makes_copy_known, missing_from, missing_reached}
+use Rattle.step_laws.specs.of_protocol.Locations.{needs_own, needs_own_if_waiting, takes_location, takes_location_by}
+use Rattle.step_laws.specs.of_protocol.Locations.{tells_released, where_reached}
+use Rattle.step_laws.specs.of_protocol.Commits.{asks_where, bears, bears_all, bears_as, bears_put, bears_task, each_holds, keeps_content, keeps_contents, needs}
+use Rattle.step_laws.specs.of_protocol.Commits.{next_id_here, rests_if_waiting, task_objects, with_objects}
+use Rattle.step_laws.specs.of_protocol.Ends.{accepts, failed_by, failed_reached, fails, finished_by, finished_reached, hears_of_end, if_present, resolves_open}
+use Rattle.step_laws.specs.of_protocol.Ends.{resolves_open_by}
+use Rattle.step_laws.specs.of_protocol.Notices.{breaks_if, breaks_where, drops_holds, drops_holds_by, drops_stop, drops_stop_by, hears_of_node, hears_of_worker, is_unheard}
+use Rattle.step_laws.specs.of_protocol.Notices.{loses_fetch, loses_fetch_at, loses_fetch_by, loses_fetch_of, loses_owner, loses_owner_of, loses_locations, moves_ask}
+use Rattle.step_laws.specs.of_protocol.Notices.{moves_ask_at, moves_asks, notice_node_step, notice_step, runs_on_node, runs_on_worker, with_dead_node, with_dead_worker}
+use Rattle.step_laws.specs.of_protocol.Ticks.{asks_again, asks_location_again, sends_holds, sends_run, sends_stop, sends_task, sends_task_at, sends_tasks, tick_step}
+use Rattle.step_laws.specs.of_protocol.Releases.{drops_copies, entries_made, going_with, lets_all_go, lets_go, lets_go_of, marks_released, may_release, release_pass}
+use Rattle.step_laws.specs.of_protocol.Releases.{release_passes, release_step, releases_all, releases_by}
+use Rattle.step_laws.specs.of_protocol.Deliveries.{reached, reached_from_node, reached_from_worker}
 use Rattle.std.proofs.lemmas.Bool.{eqb-true, not-true}
-use Rattle.numbered.specs.of_event_log.Breaks.{Among}
+use Rattle.step_laws.specs.of_event_log.Breaks.{Among}
 use Rattle.smallest_steps.specs.Steps.{IsRunning, Needs}
 use Rattle.smallest_steps.proofs.Known.{asked_where, each_held_task, fetching_foreign, hears_by-node, new_there, on_node, on_worker}
 use Rattle.smallest_steps.proofs.Known.{own_at, own_here, own_there, present_is, present_was, some_locations, task_now, waiting}

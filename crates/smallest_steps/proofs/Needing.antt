@@ -2,24 +2,24 @@
 use Rattle.std.proofs.Common.{ap, inl, inr, refl, subst, sym, ◌∙◌}
 use Rattle.std.specs.Prelude.{[], false, is_some, List, None, Option, Some, true, ℕ, ◌∷◌, ◌≡◌}
 use Rattle.meaning.specs.Values.{Id, Outcome}
-use Rattle.numbered.specs.of_event_log.Entries.{Fault}
-use Rattle.numbered.specs.of_protocol.Messages.{At, Gone}
-use Rattle.numbered.specs.of_protocol.Stores.{copy_in}
-use Rattle.numbered.specs.of_protocol.Tables.{Beside, ByTask, Fetching, first_by, HasEnded, HasFaulted}
-use Rattle.numbered.specs.of_protocol.Tables.{is_nowhere, is_pending_task, live_location, ObjectSource, Object}
-use Rattle.numbered.specs.of_protocol.Tables.{Out, OwnTask, Phase, Ready, Execution, settled_number, task_by, task_in, task_of, Waits}
-use Rattle.numbered.specs.of_protocol.Tables.{WasPut, without_location, without_locations}
-use Rattle.numbered.specs.of_protocol.Steps.{changes, WorkerContext, object_at, own_id, own_object, says, store_here}
-use Rattle.numbered.specs.of_protocol.Runs.{faults, faults_at, faults_by, fetches, gets, gets_at, gets_by}
-use Rattle.numbered.specs.of_protocol.Runs.{with_fetching, with_fetching_at, with_fetching_by}
-use Rattle.numbered.specs.of_protocol.Asking.{answers_faulted, answers_faulted_by, answers_gone}
-use Rattle.numbered.specs.of_protocol.Asking.{faults_if_waiting, next_attempt, tells_gone}
-use Rattle.numbered.specs.of_protocol.Recovery.{first_stop, gives_up, members, recovers, recovers_by, recovers_if_lost, remakes, remakes_by, remakes_one}
-use Rattle.numbered.specs.of_protocol.Locations.{answers_settled, answers_settled_by}
-use Rattle.numbered.specs.of_protocol.Locations.{looks_at_locations}
-use Rattle.numbered.specs.of_protocol.Locations.{looks_elsewhere, looks_elsewhere_by, looks_for, looks_for_by, looks_here_by}
-use Rattle.numbered.specs.of_protocol.Locations.{needs_at, needs_by, needs_own, needs_own_if_waiting, needs_released, needs_unresolved}
-use Rattle.numbered.specs.of_protocol.Locations.{tells_locations}
+use Rattle.step_laws.specs.of_event_log.Entries.{Fault}
+use Rattle.step_laws.specs.of_protocol.Messages.{At, Gone}
+use Rattle.step_laws.specs.of_protocol.Stores.{copy_in}
+use Rattle.step_laws.specs.of_protocol.Tables.{Beside, ByTask, Fetching, first_by, HasEnded, HasFaulted}
+use Rattle.step_laws.specs.of_protocol.Tables.{is_nowhere, is_pending_task, live_location, ObjectSource, Object}
+use Rattle.step_laws.specs.of_protocol.Tables.{Out, OwnTask, Phase, Ready, Execution, settled_number, task_by, task_in, task_of, Waits}
+use Rattle.step_laws.specs.of_protocol.Tables.{WasPut, without_location, without_locations}
+use Rattle.step_laws.specs.of_protocol.Steps.{changes, WorkerContext, object_at, own_id, own_object, says, store_here}
+use Rattle.step_laws.specs.of_protocol.Runs.{faults, faults_at, faults_by, fetches, gets, gets_at, gets_by}
+use Rattle.step_laws.specs.of_protocol.Runs.{with_fetching, with_fetching_at, with_fetching_by}
+use Rattle.step_laws.specs.of_protocol.Asking.{answers_faulted, answers_faulted_by, answers_gone}
+use Rattle.step_laws.specs.of_protocol.Asking.{faults_if_waiting, next_attempt, tells_gone}
+use Rattle.step_laws.specs.of_protocol.Recovery.{first_stop, gives_up, members, recovers, recovers_by, recovers_if_lost, remakes, remakes_by, remakes_one}
+use Rattle.step_laws.specs.of_protocol.Locations.{answers_settled, answers_settled_by}
+use Rattle.step_laws.specs.of_protocol.Locations.{looks_at_locations}
+use Rattle.step_laws.specs.of_protocol.Locations.{looks_elsewhere, looks_elsewhere_by, looks_for, looks_for_by, looks_here_by}
+use Rattle.step_laws.specs.of_protocol.Locations.{needs_at, needs_by, needs_own, needs_own_if_waiting, needs_released, needs_unresolved}
+use Rattle.step_laws.specs.of_protocol.Locations.{tells_locations}
 use Rattle.smallest_steps.proofs.Known.{own_there}
 use Rattle.smallest_steps.proofs.Over.{either}
 use Rattle.smallest_steps.proofs.Smallest.{KeepsNeeds}

@@ -1,12 +1,12 @@
 -- Whatever the smallest steps of a node keep, each of its steps keeps; here its answers to asks are told apart from what else it says.
 use Rattle.std.specs.Prelude.{ℕ, ◌+◌, [], ◌∷◌, Option, Some, None}
 use Rattle.meaning.specs.Values.{Id, Outcome}
-use Rattle.numbered.specs.of_event_log.Entries.{Opened}
-use Rattle.numbered.specs.of_protocol.Messages.{Message, Endpoint, TheWorker, TheNode, Ask, Give, Elsewhere, Wait, Back, Push, Finished, FinishedAck, Failed, Where, At}
-use Rattle.numbered.specs.of_protocol.Messages.{Gone, Fetch, CopyOf, Missing, Hold, HoldAck, Unhold}
-use Rattle.numbered.specs.of_protocol.Stores.{Store, copy_in}
-use Rattle.numbered.specs.of_protocol.Nodes.{AskKey, AskReply, Scheduler, NodeContext, with_scheduler, with_store_there, node_logs, node_says}
-use Rattle.numbered.specs.of_protocol.Slots.{ask_key, asks_slot, fetched, forgets, frees, node_reached, node_reached_from, replies, reply_to}
+use Rattle.step_laws.specs.of_event_log.Entries.{Opened}
+use Rattle.step_laws.specs.of_protocol.Messages.{Message, Endpoint, TheWorker, TheNode, Ask, Give, Elsewhere, Wait, Back, Push, Finished, FinishedAck, Failed, Where, At}
+use Rattle.step_laws.specs.of_protocol.Messages.{Gone, Fetch, CopyOf, Missing, Hold, HoldAck, Unhold}
+use Rattle.step_laws.specs.of_protocol.Stores.{Store, copy_in}
+use Rattle.step_laws.specs.of_protocol.Nodes.{AskKey, AskReply, Scheduler, NodeContext, with_scheduler, with_store_there, node_logs, node_says}
+use Rattle.step_laws.specs.of_protocol.Slots.{ask_key, asks_slot, fetched, forgets, frees, node_reached, node_reached_from, replies, reply_to}
 use Rattle.smallest_steps.proofs.SlotMoves.{KeepsSlots}
 use Rattle.smallest_steps.proofs.SlotMoves as S
 

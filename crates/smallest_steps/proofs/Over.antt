@@ -3,18 +3,18 @@ use Rattle.std.proofs.Common.{ap, refl}
 use Rattle.std.specs.Prelude.{Bool, false, if◌then◌else◌, List, None, not, Option, Some, suc, true, zero, ℕ, ◌&&◌, ◌+◌, ◌≡◌}
 use Rattle.meaning.specs.Values.{Id}
 use Rattle.sequence.proofs.Places.{and_left}
-use Rattle.numbered.specs.of_event_log.Entries.{main_attempt}
-use Rattle.numbered.specs.of_event_log.Words.{same_attempt}
-use Rattle.numbered.specs.of_protocol.Messages.{EndedResult}
-use Rattle.numbered.specs.of_protocol.Sets.{is_empty, rest_of}
-use Rattle.numbered.specs.of_protocol.Tables.{has_stopped, HasEnded, HasFaulted}
-use Rattle.numbered.specs.of_protocol.Tables.{knows_dead, Out, owner_of, Phase}
-use Rattle.numbered.specs.of_protocol.Tables.{Ready, Execution, Waits, with_content}
-use Rattle.numbered.specs.of_protocol.Tables.{Worker}
-use Rattle.numbered.specs.of_protocol.Steps.{changes, each_from, WorkerContext, with_run}
-use Rattle.numbered.specs.of_protocol.Runs.{is_heard}
-use Rattle.numbered.specs.of_protocol.Runs.{leaves, leaves_by, leaves_if_free, tells, tells_stop}
-use Rattle.numbered.specs.of_protocol.Ends.{first_result, settles}
+use Rattle.step_laws.specs.of_event_log.Entries.{main_attempt}
+use Rattle.step_laws.specs.of_event_log.Words.{same_attempt}
+use Rattle.step_laws.specs.of_protocol.Messages.{EndedResult}
+use Rattle.step_laws.specs.of_protocol.Sets.{is_empty, rest_of}
+use Rattle.step_laws.specs.of_protocol.Tables.{has_stopped, HasEnded, HasFaulted}
+use Rattle.step_laws.specs.of_protocol.Tables.{knows_dead, Out, owner_of, Phase}
+use Rattle.step_laws.specs.of_protocol.Tables.{Ready, Execution, Waits, with_content}
+use Rattle.step_laws.specs.of_protocol.Tables.{Worker}
+use Rattle.step_laws.specs.of_protocol.Steps.{changes, each_from, WorkerContext, with_run}
+use Rattle.step_laws.specs.of_protocol.Runs.{is_heard}
+use Rattle.step_laws.specs.of_protocol.Runs.{leaves, leaves_by, leaves_if_free, tells, tells_stop}
+use Rattle.step_laws.specs.of_protocol.Ends.{first_result, settles}
 use Rattle.smallest_steps.proofs.Untouched.{tells_stop-worker}
 use Rattle.smallest_steps.proofs.Smallest.{KeepsOver}
 use Rattle.meaning.specs.Runs.{next_id}

@@ -2,19 +2,19 @@
 use Rattle.std.proofs.Common.{refl}
 use Rattle.std.specs.Prelude.{[], filter, List, None, Option, Some, ℕ, ◌∷◌, ◌≡◌}
 use Rattle.meaning.specs.Values.{Id, Outcome, results_of, Val, Value}
-use Rattle.numbered.specs.of_event_log.Entries.{Accepted, Attempt, Begun, Fault, Faulted, Got, Released, Resolved, RetriesUsed}
-use Rattle.numbered.specs.of_event_log.Words.{attempt}
-use Rattle.numbered.specs.of_protocol.Messages.{At, Message}
-use Rattle.numbered.specs.of_protocol.Stores.{looked_up, with_ended, with_primary, with_secondary}
-use Rattle.numbered.specs.of_protocol.Tables.{HasEnded, HasFaulted, is_wanted, may_try_again, Object, OwnTask, Execution, settled_number, Worker}
-use Rattle.numbered.specs.of_protocol.Steps.{each_result, WorkerContext, logs, object_at, says, says_to_node, store_here, with_phase, with_run, with_store, with_task_of}
-use Rattle.numbered.specs.of_protocol.Steps.{with_worker}
-use Rattle.numbered.specs.of_protocol.Runs.{asks_for_slot, gives_slot_back}
-use Rattle.numbered.specs.of_protocol.Asking.{answers_faulted, breaks, resolves_used, resolves_used_by, rests}
-use Rattle.numbered.specs.of_protocol.Locations.{answers_settled, answers_settled_by, tells_locations}
-use Rattle.numbered.specs.of_protocol.Commits.{asks_where, claim_by, claim_step, ends, stops_by}
-use Rattle.numbered.specs.of_protocol.Sets.{fault}
-use Rattle.numbered.specs.of_protocol.Jobs.{AtEnd, AtGet, Stopped}
+use Rattle.step_laws.specs.of_event_log.Entries.{Accepted, Attempt, Begun, Fault, Faulted, Got, Released, Resolved, RetriesUsed}
+use Rattle.step_laws.specs.of_event_log.Words.{attempt}
+use Rattle.step_laws.specs.of_protocol.Messages.{At, Message}
+use Rattle.step_laws.specs.of_protocol.Stores.{looked_up, with_ended, with_primary, with_secondary}
+use Rattle.step_laws.specs.of_protocol.Tables.{HasEnded, HasFaulted, is_wanted, may_try_again, Object, OwnTask, Execution, settled_number, Worker}
+use Rattle.step_laws.specs.of_protocol.Steps.{each_result, WorkerContext, logs, object_at, says, says_to_node, store_here, with_phase, with_run, with_store, with_task_of}
+use Rattle.step_laws.specs.of_protocol.Steps.{with_worker}
+use Rattle.step_laws.specs.of_protocol.Runs.{asks_for_slot, gives_slot_back}
+use Rattle.step_laws.specs.of_protocol.Asking.{answers_faulted, breaks, resolves_used, resolves_used_by, rests}
+use Rattle.step_laws.specs.of_protocol.Locations.{answers_settled, answers_settled_by, tells_locations}
+use Rattle.step_laws.specs.of_protocol.Commits.{asks_where, claim_by, claim_step, ends, stops_by}
+use Rattle.step_laws.specs.of_protocol.Sets.{fault}
+use Rattle.step_laws.specs.of_protocol.Jobs.{AtEnd, AtGet, Stopped}
 use Rattle.smallest_steps.proofs.Smallest.{AnyGiven, AnyHeard, AnyOver, AnyPassed, AnyTold, KeepsAccepted, KeepsAnswers, KeepsBirths, KeepsHeard, KeepsHere}
 use Rattle.smallest_steps.proofs.Smallest.{KeepsOver}
 use Rattle.smallest_steps.proofs.Moves as S

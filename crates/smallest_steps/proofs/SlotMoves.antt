@@ -1,11 +1,11 @@
 -- Whatever a node's answers to asks and the changes of its scheduler keep, each step of its slots keeps.
 use Rattle.std.specs.Prelude.{ℕ, ◌+◌, Bool, true, false, if◌then◌else◌, [], ◌∷◌, Option, Some, None, ◌||◌, nat_lt}
-use Rattle.numbered.specs.of_event_log.Entries.{Attempt, Opened}
-use Rattle.numbered.specs.of_protocol.Sets.{first_item, has, least, rest_of}
-use Rattle.numbered.specs.of_protocol.Nodes.{AskKey, AskReply, Leased, Queued, Scheduler, SentOn, NodeContext, node_logs, with_scheduler}
-use Rattle.numbered.specs.of_protocol.Slots.{asked_by, asks_slot, forgets, frees, gives_worker, grants, grants_next, grants_queued, has_free_slot, has_no_slot_for, is_back}
-use Rattle.numbered.specs.of_protocol.Slots.{leases_idle, may_be_idle, next_in_circle, next_worker, queues, replies, replies_anew, with_answered, with_idle}
-use Rattle.numbered.specs.of_protocol.Slots.{without_slot, without_worker}
+use Rattle.step_laws.specs.of_event_log.Entries.{Attempt, Opened}
+use Rattle.step_laws.specs.of_protocol.Sets.{first_item, has, least, rest_of}
+use Rattle.step_laws.specs.of_protocol.Nodes.{AskKey, AskReply, Leased, Queued, Scheduler, SentOn, NodeContext, node_logs, with_scheduler}
+use Rattle.step_laws.specs.of_protocol.Slots.{asked_by, asks_slot, forgets, frees, gives_worker, grants, grants_next, grants_queued, has_free_slot, has_no_slot_for, is_back}
+use Rattle.step_laws.specs.of_protocol.Slots.{leases_idle, may_be_idle, next_in_circle, next_worker, queues, replies, replies_anew, with_answered, with_idle}
+use Rattle.step_laws.specs.of_protocol.Slots.{without_slot, without_worker}
 
 pub record KeepsSlots (Q : NodeContext → Type 0) : Type 0 where
   pub opens : (h : NodeContext) (w : ℕ) → Q h → Q (node_logs (record h { opened = h.opened + 1 }) (Opened w h.number ∷ []))

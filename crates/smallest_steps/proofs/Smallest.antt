@@ -1,23 +1,23 @@
 -- The smallest steps of a worker, each with what is known where it is made. A property that they keep is kept by every step.
 use Rattle.std.specs.Prelude.{[], Bool, false, is_none, is_some, length, List, Option, Some, true, ℕ, ◌&&◌, ◌+◌, ◌∷◌, ◌≡◌, ◌⊎◌}
 use Rattle.meaning.specs.Values.{Birth, Id, Outcome, Val, Value}
-use Rattle.numbered.specs.of_event_log.Breaks.{Among}
-use Rattle.numbered.specs.of_event_log.Entries.{Attempt, Fault, Faulted, Got, Released}
-use Rattle.numbered.specs.of_event_log.Words.{attempt}
-use Rattle.numbered.specs.of_protocol.Messages.{Ask, At, Back, Elsewhere, EndedResult, Failed, Fetch, Finished, FinishedAck, Give, Gone, Hold, HoldAck, Message, Missing}
-use Rattle.numbered.specs.of_protocol.Messages.{Endpoint, Push, Reason, TheNode, TheWorker, Unhold, WasReleased, Where}
-use Rattle.numbered.specs.of_protocol.Stores.{looked_up, with_ended, with_primary, with_secondary}
-use Rattle.numbered.specs.of_protocol.Sets.{is_empty}
-use Rattle.numbered.specs.of_protocol.Tables.{AskedAt, Fetching, has_stopped, HasFaulted, Holding, Object, owner_of, OwnTask, Execution, RunsOn}
-use Rattle.numbered.specs.of_protocol.Tables.{task_of, Waits, WasPut, with_asker, without_askers}
-use Rattle.numbered.specs.of_protocol.Steps.{changes, WorkerContext, is_own, logs, object_at, own_id, own_object, says, says_to_node, store_here, with_phase, with_run, with_store}
-use Rattle.numbered.specs.of_protocol.Steps.{with_task_of}
-use Rattle.numbered.specs.of_protocol.Runs.{asks_for_slot, finished_ack_reached, gives_slot_back, is_heard, leaves_if_free, push_reached, tells_stop, with_answer}
-use Rattle.numbered.specs.of_protocol.Asking.{asks_at, elsewhere_reached, given_reached, pushes, requests, resolves, rests, with_begun}
-use Rattle.numbered.specs.of_protocol.Holders.{passes_on, with_holding}
-use Rattle.numbered.specs.of_protocol.Commits.{task_objects, with_objects}
-use Rattle.numbered.specs.of_protocol.Ends.{accepts, failed_reached, finished_reached}
-use Rattle.numbered.specs.of_protocol.Notices.{loses_locations, with_dead_node, with_dead_worker}
+use Rattle.step_laws.specs.of_event_log.Breaks.{Among}
+use Rattle.step_laws.specs.of_event_log.Entries.{Attempt, Fault, Faulted, Got, Released}
+use Rattle.step_laws.specs.of_event_log.Words.{attempt}
+use Rattle.step_laws.specs.of_protocol.Messages.{Ask, At, Back, Elsewhere, EndedResult, Failed, Fetch, Finished, FinishedAck, Give, Gone, Hold, HoldAck, Message, Missing}
+use Rattle.step_laws.specs.of_protocol.Messages.{Endpoint, Push, Reason, TheNode, TheWorker, Unhold, WasReleased, Where}
+use Rattle.step_laws.specs.of_protocol.Stores.{looked_up, with_ended, with_primary, with_secondary}
+use Rattle.step_laws.specs.of_protocol.Sets.{is_empty}
+use Rattle.step_laws.specs.of_protocol.Tables.{AskedAt, Fetching, has_stopped, HasFaulted, Holding, Object, owner_of, OwnTask, Execution, RunsOn}
+use Rattle.step_laws.specs.of_protocol.Tables.{task_of, Waits, WasPut, with_asker, without_askers}
+use Rattle.step_laws.specs.of_protocol.Steps.{changes, WorkerContext, is_own, logs, object_at, own_id, own_object, says, says_to_node, store_here, with_phase, with_run, with_store}
+use Rattle.step_laws.specs.of_protocol.Steps.{with_task_of}
+use Rattle.step_laws.specs.of_protocol.Runs.{asks_for_slot, finished_ack_reached, gives_slot_back, is_heard, leaves_if_free, push_reached, tells_stop, with_answer}
+use Rattle.step_laws.specs.of_protocol.Asking.{asks_at, elsewhere_reached, given_reached, pushes, requests, resolves, rests, with_begun}
+use Rattle.step_laws.specs.of_protocol.Holders.{passes_on, with_holding}
+use Rattle.step_laws.specs.of_protocol.Commits.{task_objects, with_objects}
+use Rattle.step_laws.specs.of_protocol.Ends.{accepts, failed_reached, finished_reached}
+use Rattle.step_laws.specs.of_protocol.Notices.{loses_locations, with_dead_node, with_dead_worker}
 use Rattle.std.specs.List.{filter}
 use Rattle.smallest_steps.specs.Steps.{IsNextOf, IsRunning, LeavesAlike, Needs}
 

@@ -2,11 +2,11 @@
 use Rattle.std.proofs.Common.{◌≡◌, ℕ, zero, suc, ◌+◌, List, [], ◌∷◌, length, Some, None, Option, refl, ◌∙◌}
 use Rattle.std.specs.Prelude.{Bool, true, false, if◌then◌else◌}
 use Rattle.meaning.specs.Values.{Id}
-use Rattle.numbered.specs.of_protocol.Messages.{Hold}
-use Rattle.numbered.specs.of_protocol.Tables.{AskedAt, AtRest, HasEnded, HasFaulted, Holding, Out, OwnTask, Phase, Progress, Ready, Execution, RunsOn, Waits, Worker, task_of}
-use Rattle.numbered.specs.of_protocol.Steps.{WorkerContext, each_from, own_id, own_object, says}
-use Rattle.numbered.specs.of_protocol.Runs.{tells_stop}
-use Rattle.numbered.specs.of_protocol.Ticks.{asks_again, sends_holds, sends_task, sends_task_at, sends_tasks}
+use Rattle.step_laws.specs.of_protocol.Messages.{Hold}
+use Rattle.step_laws.specs.of_protocol.Tables.{AskedAt, AtRest, HasEnded, HasFaulted, Holding, Out, OwnTask, Phase, Progress, Ready, Execution, RunsOn, Waits, Worker, task_of}
+use Rattle.step_laws.specs.of_protocol.Steps.{WorkerContext, each_from, own_id, own_object, says}
+use Rattle.step_laws.specs.of_protocol.Runs.{tells_stop}
+use Rattle.step_laws.specs.of_protocol.Ticks.{asks_again, sends_holds, sends_task, sends_task_at, sends_tasks}
 
 pub tells_stop-worker : (h : WorkerContext) (run : Execution) (phase : Phase) → (tells_stop h run phase).worker ≡ h.worker
 tells_stop-worker h run (HasEnded c) = refl

@@ -1,9 +1,9 @@
 -- What is known where a smallest step is made.
 use Rattle.std.specs.Prelude.{◌≡◌, ◌⊎◌, ℕ, Option, Some}
 use Rattle.meaning.specs.Values.{Birth, Id}
-use Rattle.numbered.specs.of_protocol.Steps.{WorkerContext}
-use Rattle.numbered.specs.of_protocol.Asking.{next_attempt}
-use Rattle.numbered.specs.of_protocol.Tables.{Fetching, Object, OwnTask, Execution, RunsOn, Waits, new_task}
+use Rattle.step_laws.specs.of_protocol.Steps.{WorkerContext}
+use Rattle.step_laws.specs.of_protocol.Asking.{next_attempt}
+use Rattle.step_laws.specs.of_protocol.Tables.{Fetching, Object, OwnTask, Execution, RunsOn, Waits, new_task}
 
 -- a change of an object that leaves what makes it, who waits for it, and whether it has a content or a fault
 abbrev pub LeavesAlike : (Object → Object) → Type 0

@@ -11,7 +11,7 @@ use Rattle.log_words.specs.Contents.{content_text, contents_text}
 use Rattle.log_words.specs.Faults.{fault_words}
 use Rattle.log_words.specs.Tasks.{objects_text}
 use Rattle.log_text.specs.Attempts.{named_text}
-use Rattle.story_text.specs.Mentions.{is_in_birth}
+use Rattle.log_text.specs.Mentions.{is_in_birth}
 use Rattle.why_text.specs.Again.{again_note}
 use Rattle.why_text.specs.Moments.{Moment, when_text}
 use Rattle.why_text.specs.Runs.{Subject}

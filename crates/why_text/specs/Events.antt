@@ -7,7 +7,7 @@ use Rattle.meaning.specs.Values.{Id}
 use Rattle.meaning.specs.Births.{same_id}
 use Rattle.event_log.specs.Entries.{Attempt, Event, Notice, NoticeNode, Evict, Lose, Kill, KillNode}
 use Rattle.report_text.specs.Texts.{attempt_text}
-use Rattle.story_text.specs.Mentions.{is_among}
+use Rattle.log_text.specs.Mentions.{is_among}
 use Rattle.why_text.specs.Moments.{Moment, when_text}
 use Rattle.why_text.specs.Notes.{owner_text}
 use Rattle.why_text.specs.Runs.{Run, Subject, is_node}

@@ -9,7 +9,7 @@ use Rattle.event_log.specs.Words.{opened, same_attempt}
 use Rattle.event_log.specs.Events.{from_one, refused_next}
 use Rattle.report_text.specs.Main.{first}
 use Rattle.log_words.specs.Tasks.{objects_made}
-use Rattle.story_text.specs.Mentions.{is_among, is_in_birth}
+use Rattle.log_text.specs.Mentions.{is_among, is_in_birth}
 use Rattle.why_text.specs.Moments.{Moment, first_moment, moment_after}
 use Rattle.why_text.specs.Results.{is_in_result, is_small_result, objects_of}
 use Rattle.why_text.specs.Runs.{is_node}

@@ -4,7 +4,7 @@ use Rattle.meaning.specs.Values.{Id, Outcome}
 use Rattle.meaning.specs.Births.{Bearing, objects_at}
 use Rattle.values.specs.Cells.{is_small}
 use Rattle.event_log.specs.Entries.{Attempt}
-use Rattle.story_text.specs.Mentions.{is_in_content}
+use Rattle.log_text.specs.Mentions.{is_in_content}
 
 -- the objects of the task, in order
 abbrev pub objects_of : List Bearing → Attempt → List Id

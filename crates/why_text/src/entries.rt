@@ -19,9 +19,9 @@ use crate::moments::Moment;
 use crate::runs::Subject;
 use ids::{AttemptId, ObjectId};
 use log_entries::{Entry, Event};
+use log_text::is_in_birth;
 use log_words::{BirthIndex, Contents};
 use std::alloc::{AllocError, Global};
-use story_text::is_in_birth;
 use task_spec::Birth;
 use values::{Content, Fault};
 

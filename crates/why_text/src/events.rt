@@ -15,8 +15,8 @@ use crate::notes::write_owner_of;
 use crate::runs::{Run, Subject, is_node};
 use ids::{AttemptId, NodeId, ObjectId, WorkerId};
 use log_entries::Event;
+use log_text::is_among;
 use std::alloc::AllocError;
-use story_text::is_among;
 
 #[tactic(auto, unfolding(crate::specs::Events::fate_text))]
 fn write_fate(text: &mut String, attempt: AttemptId, is_open: bool) -> Result<(), AllocError>

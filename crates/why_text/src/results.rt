@@ -8,10 +8,10 @@ ghost use Rattle.why_text.specs.Results.{is_in_result, is_small_result, objects_
 use held::SharedContent;
 use ids::{AttemptId, ObjectId};
 use log_entries::Entry;
+use log_text::is_in_content;
 use log_words::{BirthIndex, objects_at};
 use sequence::Seq;
 use std::alloc::{AllocError, Global};
-use story_text::is_in_content;
 
 /// The objects of the attempt's task, by the log of which that is the index.
 pub fn objects_of(

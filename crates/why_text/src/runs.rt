@@ -8,9 +8,9 @@ ghost use Rattle.why_text.specs.Runs.{is_end_of, is_kill, is_killed_in, is_node,
 
 use ids::{AttemptId, ObjectId};
 use log_entries::{Entry, Event};
+use log_text::{node_of, opened};
 use log_words::{BirthIndex, is_refusal_at, objects_at};
 use std::alloc::{AllocError, Global};
-use story_text::{node_of, opened};
 
 /// An attempt, the numbers of its worker and of the node of that, whether the log never says that it ended, and whether its worker was
 /// killed for itself, not with its node.

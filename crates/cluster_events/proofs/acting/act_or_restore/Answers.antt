@@ -1,6 +1,6 @@
 use Rattle.std.proofs.Common.{◌≡◌, OnOk, IfOk, sym, ap, ◌∙◌, subst}
-use Rattle.limit_laws.specs.Limits.{entries_within, whole_within}
-use Rattle.limit_laws.proofs.Taken.{nothing_whole}
+use Rattle.step_laws.specs.Limits.{entries_within, whole_within}
+use Rattle.step_laws.proofs.Taken.{nothing_whole}
 use Rattle.protocol.specs.Nodes.{new_node}
 use Rattle.protocol.specs.Tables.{new_worker}
 use Rattle.protocol.specs.Steps.{WorkerContext}

@@ -1,8 +1,8 @@
 use Rattle.std.proofs.Common.{◌+◌, Some, length, sym, ap, ◌∙◌}
 use Rattle.std.specs.Prelude.{slice_set}
-use Rattle.limit_laws.specs.Opens.{fits}
-use Rattle.limit_laws.proofs.Counts.{restored}
-use Rattle.limit_laws.proofs.Taken.{worker_stays, worker_taken}
+use Rattle.step_laws.specs.Opens.{fits}
+use Rattle.step_laws.proofs.Counts.{restored}
+use Rattle.step_laws.proofs.Taken.{worker_stays, worker_taken}
 use Rattle.protocol.specs.Nodes.{new_node}
 use Rattle.protocol.specs.Tables.{new_worker}
 use Rattle.protocol.specs.Cluster.{ClusterState}

@@ -1,5 +1,5 @@
 use Rattle.std.proofs.Common.{◌+◌, Some, length, sym, ap, ◌∙◌}
-use Rattle.limit_laws.specs.Opens.{fits}
+use Rattle.step_laws.specs.Opens.{fits}
 use Rattle.protocol.specs.Slots.{forgets}
 use Rattle.protocol.specs.Cluster.{node_does}
 use Rattle.cluster_events.proofs.Dying.{dies}

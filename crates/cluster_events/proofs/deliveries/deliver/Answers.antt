@@ -1,5 +1,5 @@
 use Rattle.std.proofs.Common.{◌≡◌, ◌<◌, Some, length, sym, ap, ◌∙◌, arith}
-use Rattle.limit_laws.proofs.MarkLaws.{delivered_marked}
+use Rattle.step_laws.proofs.MarkLaws.{delivered_marked}
 use Rattle.protocol.specs.Numbered.{item_at}
 use Rattle.cluster_events.proofs.deliveries.deliver.Goals as goal
 

@@ -1,5 +1,5 @@
 use Rattle.std.proofs.Common.{◌≡◌, IfOk, OnOk, sym, subst}
-use Rattle.limit_laws.specs.Limits.{entries_limited, whole_limited}
+use Rattle.step_laws.specs.Limits.{entries_limited, whole_limited}
 use Rattle.protocol.specs.Events.{happens}
 use Rattle.cluster_events.proofs.happening.happen.Goals as goal
 

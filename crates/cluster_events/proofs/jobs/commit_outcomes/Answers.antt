@@ -1,5 +1,5 @@
 use Rattle.std.proofs.Common.{◌≡◌, ◌+◌, sym, ◌∙◌}
-use Rattle.limit_laws.proofs.JobLaws.{committed_entries, committed_not_noted, committed_noted}
+use Rattle.step_laws.proofs.JobLaws.{committed_entries, committed_not_noted, committed_noted}
 use Rattle.protocol.specs.Events.{objects_made}
 use Rattle.number_lists.proofs.Places.{item_there}
 use Rattle.cluster_events.proofs.jobs.commit_outcomes.Goals as goal

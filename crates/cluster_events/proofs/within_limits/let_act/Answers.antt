@@ -1,6 +1,6 @@
 use Rattle.std.proofs.Common.{◌<◌, Some, length, sym, ap, ◌∙◌, arith}
 use Rattle.std.proofs.lemmas.Bool.Decides.{nat_tests}
-use Rattle.limit_laws.proofs.Taken.{taken_entries, taken_whole}
+use Rattle.step_laws.proofs.Taken.{taken_entries, taken_whole}
 use Rattle.protocol.specs.Cluster.{worker_does}
 use Rattle.worker_acts.specs.Acts.{act_step}
 use Rattle.cluster_events.proofs.Room.{room}

@@ -1,4 +1,4 @@
-use Rattle.cursor_laws.specs.Cursors.{IsPast}
+use Rattle.step_laws.specs.Cursors.{IsPast}
 use Rattle.protocol_core.proofs.cursor.past_delivered.Given as goal
 
 -- every message before the place was delivered

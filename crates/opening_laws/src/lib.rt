@@ -1,2 +1,0 @@
-//! A worker's event opens one worker at most.
-#![tactic(auto)]

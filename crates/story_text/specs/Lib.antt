@@ -1,4 +1,0 @@
-pub mod Mentions
-pub mod Runners
-pub mod About
-pub mod Text

@@ -11,6 +11,7 @@ use Rattle.script_commands.specs.Scripts.{ExplainsText, IsAllowed, IsRefusalOf, 
 use Rattle.script_commands.proofs.Refused.{explains_text}
 use Rattle.run_commands.specs.declared.form.Form.{Form}
 use Rattle.run_commands.proofs.AsSerial.{as_serial}
+use Rattle.run_commands.proofs.Lasting.{driven_goes_on, played_goes_on}
 use Rattle.run_commands.specs.RunReports.{first_run}
 use Rattle.run_commands.specs.SimReports.{AreEvents, ExplainsList, first_play, lines_in_file}
 use Rattle.run_commands.specs.SoFar.{ExplainsTexts, IsDriven, IsPlayed, IsReplaySoFar, IsReplayToldOf, IsReplayedSoFar, IsRunSoFar, IsRunToldOf, IsToldOf, IsToldOfReplay}
@@ -21,9 +22,12 @@ pub run_told_so : (script named : Script) (size : Size) (form : Form) (before af
     IsToldOf form after.run after.sent nowhere report status → IsRunSoFar script size form report status
 run_told_so script named size form before after nowhere report status own first driven meant none told =
     let here = subst (λ l. IsToldOf form after.run after.sent l report status) none told in
+    let so_driven : IsDriven script (first_run size) after =
+    subst (λ s. IsDriven s (first_run size) after) (sym own) (subst (λ b. IsDriven named b after) first driven) in
     record {
       course = after;
-      driven = subst (λ s. IsDriven s (first_run size) after) (sym own) (subst (λ b. IsDriven named b after) first driven);
+      driven = so_driven;
+      goes_on = driven_goes_on script size after so_driven;
       meant = subst (λ s. IsSoundLog s after.run) (sym own) meant;
       told = here.0;
       status_is = here.1;
@@ -32,10 +36,14 @@ run_told_so script named size form before after nowhere report status own first 
 -- a replay of what the file says, which began so
 pub played_so : (script named : Script) (size : Size) (says : EventFile) (begun first after : Play) → script ≡ named → begun ≡ first →
     first ≡ first_play size → IsPlayed named says begun after → IsSoundLog named after.run → IsReplayedSoFar script size says after
-played_so script named size says begun first after own same begins played meant = record {
-  played = subst (λ s. IsPlayed s says (first_play size) after) (sym own) (subst (λ p. IsPlayed named says p after) (same ∙ begins) played);
-  meant = subst (λ s. IsSoundLog s after.run) (sym own) meant;
-}
+played_so script named size says begun first after own same begins played meant =
+    let so_played : IsPlayed script says (first_play size) after =
+    subst (λ s. IsPlayed s says (first_play size) after) (sym own) (subst (λ p. IsPlayed named says p after) (same ∙ begins) played) in
+    record {
+      played = so_played;
+      goes_on = played_goes_on script says size after so_played;
+      meant = subst (λ s. IsSoundLog s after.run) (sym own) meant;
+    }
 
 -- and what is written of it
 pub replay_told_so : (script : Script) (size : Size) (form : Form) (says : EventFile) (numbers : List ℕ) (play : Play) (report : List ℕ) (status : ℕ) →
@@ -43,6 +51,7 @@ pub replay_told_so : (script : Script) (size : Size) (form : Form) (says : Event
 replay_told_so script size form says numbers play report status so told = record {
   play = play;
   played = so.played;
+  goes_on = so.goes_on;
   meant = so.meant;
   told = told.0;
   status_is = told.1;

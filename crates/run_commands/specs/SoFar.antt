@@ -1,13 +1,15 @@
 -- What is written of a run up to where it stops.
-use Rattle.std.specs.Prelude.{◌≡◌, ◌⊎◌, ℕ, List, []}
+use Rattle.std.specs.Prelude.{◌≡◌, ◌⊎◌, ℕ, Bool, true, false, List, []}
 use Rattle.meaning.specs.Syntax.{Script}
 use Rattle.event_files.specs.declared.event_file.EventFile.{EventFile}
 use Rattle.report_text.specs.Main.{status_of}
 use Rattle.protocol_board.specs.Cores.{IsSoundLog, RunState, Size}
 use Rattle.protocol_board.specs.declared.stopped.ReplayStop.{ReplayStop}
+use Rattle.protocol_board.specs.declared.stopped.ReplayStop.TheVariants as stops
 use Rattle.protocol_board.specs.declared.unfinished.Unfinished.{Unfinished}
+use Rattle.protocol_board.specs.declared.unfinished.Unfinished.TheVariants as ends
 use Rattle.protocol_board.specs.Drives.{Course, EndsSo, StopsSo}
-use Rattle.protocol_board.specs.Replays.{FileStops, Play, PlaysFile}
+use Rattle.protocol_board.specs.Replays.{FileStops, Play, PlaysFile, is_no_memory}
 use Rattle.raysim_streams.specs.declared.CommandRefusal.{CommandRefusal}
 use Rattle.raysim_streams.specs.declared.CommandRefusal.TheVariants.{At, NoMemory, Stopped as Stops, BadLine, WrongJob, Failed}
 use Rattle.run_commands.specs.declared.form.Form.{Form}
@@ -16,18 +18,32 @@ use Rattle.run_commands.specs.RunReports.{first_run}
 use Rattle.script_commands.specs.Scripts.{IsNoScriptFor, IsScript}
 use Rattle.run_commands.specs.SimReports.{AreEvents, IsBadLine, first_play, lines_in_file}
 
--- it was driven until nothing was left to do, or to where it stops
-abbrev pub IsDriven : Script → Course → Course → Type 0
-IsDriven script before after = EndsSo script before after ⊎ ((unfinished : Unfinished) × StopsSo script before after unfinished)
+-- whether it was want of memory that stopped a run that was driven, or a replay
+abbrev pub lacks_memory : Unfinished → Bool
+lacks_memory (ends.Refused refusal) = is_no_memory refusal
+lacks_memory ends.TooLong = false
 
--- all that the file says was played, or up to where the replay stops
+abbrev pub replay_lacks_memory : ReplayStop → Bool
+replay_lacks_memory stops.NoMemory = true
+replay_lacks_memory stops.TooLong = false
+replay_lacks_memory stops.WrongJob = false
+
+-- it was driven until nothing was left to do, or to where it stops; want of memory, which may come anywhere, is no such stop
+abbrev pub IsDriven : Script → Course → Course → Type 0
+IsDriven script before after =
+    EndsSo script before after ⊎ ((unfinished : Unfinished) × (lacks_memory unfinished ≡ false) × StopsSo script before after unfinished)
+
+-- all that the file says was played, or up to where the replay stops, alike
 abbrev pub IsPlayed : Script → EventFile → Play → Play → Type 0
-IsPlayed script says before after = PlaysFile script says before after ⊎ ((stopped : ReplayStop) × FileStops script says before after stopped)
+IsPlayed script says before after =
+    PlaysFile script says before after ⊎ ((stopped : ReplayStop) × (replay_lacks_memory stopped ≡ false) × FileStops script says before after stopped)
 
 -- what is written of a run of the script up to there, the status of main's end there, and what its log means
 pub record IsRunSoFar (script : Script) (size : Size) (form : Form) (report : List ℕ) (status : ℕ) : Type 0 where
   pub course : Course
   pub driven : IsDriven script (first_run size) course
+  -- each event found memory, so that its tables are those to which its log led
+  pub goes_on : course.run.is_halted ≡ false
   pub meant : IsSoundLog script course.run
   pub told : IsReportIn form (account_of course.run course.sent []) report
   pub status_is : status ≡ status_of course.run.log
@@ -36,6 +52,8 @@ pub record IsRunSoFar (script : Script) (size : Size) (form : Form) (report : Li
 pub record IsReplaySoFar (script : Script) (size : Size) (form : Form) (says : EventFile) (numbers report : List ℕ) (status : ℕ) : Type 0 where
   pub play : Play
   pub played : IsPlayed script says (first_play size) play
+  -- each event found memory, so that its tables are those to which its log led
+  pub goes_on : play.run.is_halted ≡ false
   pub meant : IsSoundLog script play.run
   pub told : IsReportIn form (account_of play.run play.sent (lines_in_file numbers play.lines)) report
   pub status_is : status ≡ status_of play.run.log
@@ -80,4 +98,5 @@ IsToldOfReplay form numbers play report status = IsToldOf form play.run play.sen
 -- what the file says makes this of a run of the script that begins on the cluster, up to there, and what its log then means
 pub record IsReplayedSoFar (script : Script) (size : Size) (says : EventFile) (play : Play) : Type 0 where
   pub played : IsPlayed script says (first_play size) play
+  pub goes_on : play.run.is_halted ≡ false
   pub meant : IsSoundLog script play.run

@@ -1,10 +1,10 @@
 // Replays of what an event file says.
 
-ghost use Rattle.std.specs.Prelude.{◌≡◌, IfOk, IfErr};
+ghost use Rattle.std.specs.Prelude.{◌≡◌, false, IfOk, IfErr, OnOk};
 ghost use Rattle.script_check.specs.Trees.{script_of};
 ghost use Rattle.protocol_board.specs.Replays.{from_first};
 ghost use Rattle.run_commands.specs.SimReports.{IsReplayed, IsStopOf, stop_refusal};
-ghost use Rattle.run_commands.specs.SoFar.{IsPlayed, IsReplayedSoFar};
+ghost use Rattle.run_commands.specs.SoFar.{IsPlayed, IsReplayedSoFar, replay_lacks_memory};
 
 use crate::event_lines::{EventLines, number_of};
 use event_files::EventFile;
@@ -50,19 +50,31 @@ pub fn replayed<S: ScriptName>(
     }
 }
 
-/// Plays what the file says, or up to where the replay stops.
+/// A replay that was stopped is told as far as it went, unless it was stopped for want of memory.
+fn replay_but_for_memory(stop: ReplayStop) -> Result<(), CommandRefusal>
+    ensures stopped { OnOk result (replay_lacks_memory stop ≡ false) }
+    ensures only { IfErr result (λ refusal. refusal ≡ CommandRefusal.NoMemory) }
+{
+    match stop {
+        ReplayStop::NoMemory => Err(CommandRefusal::NoMemory),
+        ReplayStop::TooLong | ReplayStop::WrongJob => Ok(()),
+    }
+}
+
+/// Plays what the file says, or up to where the replay stops; it fails for want of memory alone.
 fn play_so_far<S: ScriptName>(
     alloc: Global,
     replay: &mut Replay<S>,
     script: &Compiled,
     says: &EventFile,
-)
+) -> Result<(), CommandRefusal>
     requires { script_of script.now ≡ S.script }
-    ensures { IsPlayed S.script says.now (from_first replay.old) replay.new }
+    ensures played { OnOk result (IsPlayed S.script says.now (from_first replay.old) replay.new) }
+    ensures only { IfErr result (λ refusal. refusal ≡ CommandRefusal.NoMemory) }
 {
     match replay.play_file(alloc, script, says) {
-        Ok(()) => {}
-        Err(_) => {}
+        Ok(()) => Ok(()),
+        Err(stop) => replay_but_for_memory(stop),
     }
 }
 
@@ -82,7 +94,9 @@ pub fn replayed_so_far<S: ScriptName>(
         Err(_) => return Err(CommandRefusal::NoMemory),
     };
     let mut replay = Replay::new(alloc, core);
-    play_so_far(alloc, &mut replay, script, says);
+    if let Err(refusal) = play_so_far(alloc, &mut replay, script, says) {
+        return Err(refusal);
+    }
     // This says what the log means.
     let _ = replay.board().log();
     Ok(replay)

@@ -1,16 +1,19 @@
 // A run up to where it stops.
 
-ghost use Rattle.std.specs.Prelude.{◌≡◌, IfOk, IfErr, string_bytes};
+ghost use Rattle.std.specs.Prelude.{◌≡◌, false, IfOk, IfErr, OnOk, string_bytes};
 ghost use Rattle.script_check.specs.Trees.{script_of};
+ghost use Rattle.protocol_board.specs.Replays.{is_no_memory};
 ghost use Rattle.protocol_board.specs.Views.{course_of};
 ghost use Rattle.script_commands.specs.Scripts.{ExplainsText};
-ghost use Rattle.run_commands.specs.SoFar.{ExplainsTexts, IsDriven, IsReplaySoFar, IsReplayToldOf, IsRunSoFar, IsRunToldOf};
+ghost use Rattle.run_commands.specs.SoFar.{ExplainsTexts, IsDriven, IsReplaySoFar, IsReplayToldOf, IsRunSoFar, IsRunToldOf, lacks_memory};
 
 use crate::event_lines::{EventLines, event_lines};
 use crate::form::Form;
 use crate::replays::replayed_so_far;
 use crate::telling::{SoFar, told, told_replay};
 use fault_runs::{Board, Cluster, Core, drive};
+use log_entries::Refusal;
+use protocol_board::Unfinished;
 use raysim_streams::CommandRefusal;
 use run_watch::Unwatched;
 use script_commands::compiled_script;
@@ -19,19 +22,47 @@ use sequence::Seq;
 use std::alloc::Global;
 use std::marker::Brand;
 
-/// Drives the run until nothing is left to do, or to where it stops.
+fn is_no_memory(refusal: Refusal) -> bool
+    ensures { result ≡ is_no_memory refusal }
+{
+    matches!(refusal, Refusal::NoMemory)
+}
+
+/// Whether it was want of memory that stopped a run.
+fn lacks_memory(unfinished: Unfinished) -> bool
+    ensures { result ≡ lacks_memory unfinished }
+{
+    match unfinished {
+        Unfinished::Refused(refusal) => is_no_memory(refusal),
+        Unfinished::TooLong => false,
+    }
+}
+
+/// A run that was stopped is told as far as it went, unless it was stopped for want of memory.
+fn but_for_memory(unfinished: Unfinished) -> Result<(), CommandRefusal>
+    ensures stopped { OnOk result (lacks_memory unfinished ≡ false) }
+    ensures only { IfErr result (λ refusal. refusal ≡ CommandRefusal.NoMemory) }
+{
+    if lacks_memory(unfinished) {
+        return Err(CommandRefusal::NoMemory);
+    }
+    Ok(())
+}
+
+/// Drives the run until nothing is left to do, or to where it stops; it fails for want of memory alone.
 pub fn drive_so_far<S: ScriptName>(
     alloc: Global,
     board: &mut Board<S>,
     sent: &mut Seq<usize>,
     script: &Compiled,
-)
+) -> Result<(), CommandRefusal>
     requires { script_of script.now ≡ S.script }
-    ensures { IsDriven S.script (course_of board.old sent.old) (course_of board.new sent.new) }
+    ensures driven { OnOk result (IsDriven S.script (course_of board.old sent.old) (course_of board.new sent.new)) }
+    ensures only { IfErr result (λ refusal. refusal ≡ CommandRefusal.NoMemory) }
 {
     match drive(alloc, board, sent, script, &mut Unwatched) {
-        Ok(()) => {}
-        Err(_) => {}
+        Ok(()) => Ok(()),
+        Err(unfinished) => but_for_memory(unfinished),
     }
 }
 
@@ -52,7 +83,9 @@ fn run_script<S: ScriptName>(
     };
     let mut board = Board::new(core);
     let mut sent = Seq::new(alloc);
-    drive_so_far(alloc, &mut board, &mut sent, script);
+    if let Err(refusal) = drive_so_far(alloc, &mut board, &mut sent, script) {
+        return Err(refusal);
+    }
     let nowhere = Seq::new(alloc);
     told(alloc, &board, &sent, &nowhere, form)
 }

@@ -82,7 +82,9 @@ fn run_script<S: ScriptName>(
     };
     let mut board = Board::new(core);
     let mut sent = Seq::new(alloc);
-    drive_so_far(alloc, &mut board, &mut sent, script);
+    if let Err(refusal) = drive_so_far(alloc, &mut board, &mut sent, script) {
+        return Err(refusal);
+    }
     told_of(alloc, placed, text, board.log(), asked)
 }
 

@@ -11,4 +11,4 @@ returns-clause-replayed g c =
     played_so (script_of c.args.script.now) g.S.ScriptName.script c.args.cluster c.args.says.now
     (from_first c.new-replay.result) c.new-replay.result c.play_so_far.new.replay c.requires
     (ap from_first c.new-replay.ensures ∙ sym c.new-replay.ensures) (c.new-replay.ensures ∙ ap first c.in-Ok.ensures)
-    c.play_so_far.ensures (subst (λ r. IsSoundLog g.S.ScriptName.script r) c.board.ensures c.log.ensures.meant)
+    c.in_default.ensures.played (subst (λ r. IsSoundLog g.S.ScriptName.script r) c.board.ensures c.log.ensures.meant)

@@ -17,4 +17,4 @@ returns-clause-told g c =
     (λ s told. run_told_so script g.S.ScriptName.script c.args.cluster form (course_of c.new-board.result c.new-sent.result) after c.new-nowhere.result
     (string_bytes s.text) s.status c.requires
     (begins_so c.new-board.result c.new-sent.result c.args.cluster (c.new-board.ensures ∙ c.in-Ok.ensures) c.new-sent.ensures)
-    c.drive_so_far.ensures c.told.ensures.meant c.new-nowhere.ensures told) c.told.ensures.told
+    c.in_default.ensures.driven c.told.ensures.meant c.new-nowhere.ensures told) c.told.ensures.told

@@ -19,4 +19,4 @@ returns-clause-told g c =
     (λ s told. run_trap_so script g.S.ScriptName.script c.args.cluster text places c.args.asked (course_of c.new-board.result c.new-sent.result) after
     c.log.result.now (string_bytes s) c.requires
     (begins_so c.new-board.result c.new-sent.result c.args.cluster (c.new-board.ensures ∙ c.in-Ok.ensures) c.new-sent.ensures)
-    c.drive_so_far.ensures c.log.ensures.meant c.log.ensures.log told) c.told_of.ensures.told
+    c.in_default.ensures.driven c.log.ensures.meant c.log.ensures.log told) c.told_of.ensures.told

@@ -105,7 +105,7 @@ keeps_faults h f j i = subst (λ xs. IsThere xs j) (sym (faults_same h f)) i
 
 tells_gone_same : (h : WorkerContext) (ws : List ℕ) (o : Id) (g : Fault) → (tells_gone h ws o g).worker.objects ≡ h.worker.objects
 tells_gone_same h [] o g = refl
-tells_gone_same h (w ∷ ws) o g = tells_gone_same (Rattle.step_laws.specs.of_protocol.Steps.says h w (Rattle.numbered.specs.of_protocol.Messages.Gone o g)) ws o g
+tells_gone_same h (w ∷ ws) o g = tells_gone_same (Rattle.step_laws.specs.of_protocol.Steps.says h w (Rattle.step_laws.specs.of_protocol.Messages.Gone o g)) ws o g
 
 keeps_waiting : (h : WorkerContext) (o : Id) (f : Fault) → Keeps h (faults_if_waiting h o f)
 keeps_waiting h o f = at_test (λ b. Keeps h (if b then faults h f else h)) (is_waiting_for h.worker o) (λ b. keeps_faults h f) (λ b j i. i)
@@ -207,7 +207,7 @@ keeps_needs h o =
 
 tells_locations_same : (h : WorkerContext) (ws : List ℕ) (o : Id) (x : Object) → (tells_locations h ws o x).worker.objects ≡ h.worker.objects
 tells_locations_same h [] o x = refl
-tells_locations_same h (w ∷ ws) o x = tells_locations_same (Rattle.step_laws.specs.of_protocol.Steps.says h w (Rattle.numbered.specs.of_protocol.Messages.At o (settled_number x) x.locations x.kept)) ws o x
+tells_locations_same h (w ∷ ws) o x = tells_locations_same (Rattle.step_laws.specs.of_protocol.Steps.says h w (Rattle.step_laws.specs.of_protocol.Messages.At o (settled_number x) x.locations x.kept)) ws o x
 
 -- whoever waits for an object is answered
 pub keeps_answers : (h : WorkerContext) (o : Id) → Keeps h (answers_settled h o)

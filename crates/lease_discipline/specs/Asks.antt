@@ -43,8 +43,8 @@ IsLast dead sent a t n = (i m : ℕ) → Asked sent a i m → ((i ≡ t) × (m �
 pub record IsClosed (dead : ℕ → Type 0) (sent : List Envelope) (a : Attempt) (w : ℕ) : Type 0 where
   pub hops : ℕ
   pub node : ℕ
-  pub given : Sends sent (TheNode node) (TheWorker a.object.owner) (Give a t w)
-  pub last : IsLast dead sent a t node
+  pub given : Sends sent (TheNode node) (TheWorker a.object.owner) (Give a hops w)
+  pub last : IsLast dead sent a hops node
 
 -- ---- owners
 

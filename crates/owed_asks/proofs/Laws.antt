@@ -284,7 +284,7 @@ module _ (s : Setting) (r : Running) (keeps : RunKeeps s r) (calm : IsCalm r.log
     pub number : task.number ≡ a.number
     pub hops : ℕ
     pub node : ℕ
-    pub stands : task.progress ≡ AskedAt t node
+    pub stands : task.progress ≡ AskedAt hops node
     pub spec : birth_at (births r.log) a.object ≡ Some task.spec
 
   not_begun : (a : Attempt) → IsUnbegun (seen s r) a → a.number < length (runs_of a.object r.log) → ⊥

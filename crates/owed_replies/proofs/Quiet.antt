@@ -203,7 +203,7 @@ none_lost_put log calm before after n o parts lost =
 pub no_cause : (log : List Entry) → IsCalm log → (kind : FaultKind) (z : Id) → CauseOf kind log z → ⊥
 no_cause log calm OwnerDied z c = worker_alive log calm z.owner c
 no_cause log calm PutLost z c = none_lost_put log calm c.before c.after c.node z c.parts c.lost
-no_cause log calm RetriesUsed z c = by_places c.locations c.all c.broken
+no_cause log calm RetriesUsed z c = by_places c.places c.all c.broken
   where
     by_places : (ks : List ℕ) → length ks ≡ c.retries + 1 → BreakRising log c.part.born.object 0 0 ks → ⊥
     by_places [] e b = absurd (omega (arith, e))

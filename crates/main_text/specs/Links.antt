@@ -137,7 +137,8 @@ endpoint_name (TheWorker w) = worker_text w
 endpoint_name (TheNode n) = node_text n
 
 abbrev pub envelope_text : Envelope → List ℕ
-envelope_text l = codes " (" ++ (kind_text l.message ++ (codes ", from " ++ (endpoint_name l.sender ++ (codes " to " ++ (endpoint_name l.receiver ++ codes ")")))))
+envelope_text l =
+    codes " (" ++ (kind_text l.message ++ (codes ", from " ++ (endpoint_name l.sender ++ (codes " to " ++ (endpoint_name l.receiver ++ codes ")")))))
 
 abbrev pub envelope_note : Option Envelope → List ℕ
 envelope_note None = []

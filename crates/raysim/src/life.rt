@@ -143,6 +143,11 @@ impl<'a, R: Eprint + AllocGlobal + Clock> Life<'a, R> {
         }
     }
 
+    /// Whether anything may be told. Where nothing is, the log isn't looked at.
+    fn is_watching(&self) -> bool {
+        self.stream || self.line.telling != Telling::Never
+    }
+
     /// Writes what main printed.
     fn write_prints(&mut self, log: &[Entry]) {
         let Ok(text) = prints_text(self.line.rt.alloc(), log) else {
@@ -170,7 +175,7 @@ impl<'a, R: Eprint + AllocGlobal + Clock> Life<'a, R> {
 
 impl<R: Eprint + AllocGlobal + Clock> Watcher for Life<'_, R> {
     fn look(&mut self, log: &[Entry]) {
-        if self.seen >= log.len() {
+        if !self.is_watching() || self.seen >= log.len() {
             return;
         }
         let more = &log[self.seen..];

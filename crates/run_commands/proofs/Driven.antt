@@ -1,5 +1,5 @@
 -- A run of a script that is driven from its beginning.
-use Rattle.std.proofs.Common.{◌≡◌, ◌∙◌, ℕ, List, [], sym, ap, subst}
+use Rattle.std.proofs.Common.{◌≡◌, ◌∙◌, ℕ, Bool, true, false, if◌then◌else◌, List, [], refl, sym, ap, subst}
 use Rattle.meaning.specs.Syntax.{Script}
 use Rattle.protocol_board.specs.Cores.{IsSoundLog, RunState, Size, first_state}
 use Rattle.protocol_board.specs.declared.unfinished.Unfinished.{Unfinished}
@@ -8,7 +8,7 @@ use Rattle.protocol_board.specs.Drives.{Course, EndsSo, StopsSo}
 use Rattle.raysim_streams.specs.declared.CommandRefusal.{CommandRefusal}
 use Rattle.raysim_streams.specs.declared.CommandRefusal.TheVariants.{NoMemory, Stopped}
 use Rattle.run_commands.specs.declared.form.Form.{Form}
-use Rattle.run_commands.specs.RunReports.{IsReportOf, IsRunStop, first_run}
+use Rattle.run_commands.specs.RunReports.{IsReportOf, IsRunStop, first_run, lacks_memory, run_refusal}
 use Rattle.run_commands.specs.SoFar.{IsToldOf}
 use Rattle.run_commands.proofs.Lasting.{run_goes_on}
 
@@ -28,12 +28,17 @@ run_ends script named size form before after nowhere report status own first end
     let here = subst (λ l. IsToldOf form after.run after.sent l report status) none told in
     (after, record { ends = driven; goes_on = run_goes_on script size after driven; meant = sound }, here.0, here.1)
 
+stops_by : (script : Script) (size : Size) (after : Course) (unfinished : Unfinished) (is_lacking : Bool) → lacks_memory unfinished ≡ is_lacking →
+    StopsSo script (first_run size) after unfinished → IsRunStop script size (if is_lacking then NoMemory else Stopped (unfinished_code unfinished))
+stops_by script size after unfinished true lacks stops = tt
+stops_by script size after unfinished false lacks stops = (after, unfinished, lacks, stops, refl)
+
 -- it stops before its end
-pub run_stops : (script named : Script) (size : Size) (before after : Course) (unfinished : Unfinished) (code : ℕ) →
-    script ≡ named → before ≡ first_run size → StopsSo named before after unfinished → code ≡ unfinished_code unfinished → IsRunStop script size (Stopped code)
-run_stops script named size before after unfinished code own first stops same =
+pub run_stops : (script named : Script) (size : Size) (before after : Course) (unfinished : Unfinished) (refusal : CommandRefusal) →
+    script ≡ named → before ≡ first_run size → StopsSo named before after unfinished → refusal ≡ run_refusal unfinished → IsRunStop script size refusal
+run_stops script named size before after unfinished refusal own first stops same =
     let driven = subst (λ s. StopsSo s (first_run size) after unfinished) (sym own) (subst (λ b. StopsSo named b after unfinished) first stops) in
-    (after, unfinished, driven, same)
+    subst (λ r. IsRunStop script size r) (sym same) (stops_by script size after unfinished (lacks_memory unfinished) refl driven)
 
 -- there is no memory
 pub run_without_memory : (script : Script) (size : Size) (r : CommandRefusal) → r ≡ NoMemory → IsRunStop script size r

@@ -20,8 +20,8 @@ use Rattle.protocol_board.specs.declared.unfinished.Unfinished.{Unfinished}
 use Rattle.protocol_board.specs.declared.unfinished.Unfinished.TheVariants as ends
 use Rattle.protocol_board.specs.Drives.{BreaksAfter, BreaksOff, Course, EndsSo, Goes, IsTaken, StopsSo, Turn, Turns}
 use Rattle.run_commands.specs.SimReports.{first_play}
-use Rattle.run_commands.specs.RunReports.{first_run}
-use Rattle.run_commands.specs.SoFar.{IsDriven, IsPlayed, lacks_memory, replay_lacks_memory}
+use Rattle.run_commands.specs.RunReports.{first_run, lacks_memory}
+use Rattle.run_commands.specs.SoFar.{IsDriven, IsPlayed, replay_lacks_memory}
 
 -- each event so far found memory
 abbrev FoundMemory : RunState → Type 0
@@ -39,7 +39,8 @@ behind_step script before after e seat s h =
     let a = s.answered in
     behind_answer before.run after.run e seat a.0 s.told s.goes_on (a.2.follows h)
 
-behind_settle : (script : Script) (but : List ℕ) (n : ℕ) (before after : Play) → Settles script but n before after → FoundMemory before.run → FoundMemory after.run
+behind_settle : (script : Script) (but : List ℕ) (n : ℕ) (before after : Play) → Settles script but n before after → FoundMemory before.run →
+    FoundMemory after.run
 unfolding Settles
 behind_settle script but zero before after same h = subst (λ (p : Play). FoundMemory p.run) (sym same) h
 behind_settle script but (suc n) before after (between, e, settled, is_next, s) h =

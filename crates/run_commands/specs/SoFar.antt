@@ -7,22 +7,17 @@ use Rattle.protocol_board.specs.Cores.{IsSoundLog, RunState, Size}
 use Rattle.protocol_board.specs.declared.stopped.ReplayStop.{ReplayStop}
 use Rattle.protocol_board.specs.declared.stopped.ReplayStop.TheVariants as stops
 use Rattle.protocol_board.specs.declared.unfinished.Unfinished.{Unfinished}
-use Rattle.protocol_board.specs.declared.unfinished.Unfinished.TheVariants as ends
 use Rattle.protocol_board.specs.Drives.{Course, EndsSo, StopsSo}
-use Rattle.protocol_board.specs.Replays.{FileStops, Play, PlaysFile, is_no_memory}
+use Rattle.protocol_board.specs.Replays.{FileStops, Play, PlaysFile}
 use Rattle.raysim_streams.specs.declared.CommandRefusal.{CommandRefusal}
 use Rattle.raysim_streams.specs.declared.CommandRefusal.TheVariants.{At, NoMemory, Stopped as Stops, BadLine, WrongJob, Failed}
 use Rattle.run_commands.specs.declared.form.Form.{Form}
 use Rattle.run_commands.specs.Reports.{IsAsSerialIn, IsReportIn, account_of}
-use Rattle.run_commands.specs.RunReports.{first_run}
+use Rattle.run_commands.specs.RunReports.{first_run, lacks_memory}
 use Rattle.script_commands.specs.Scripts.{IsNoScriptFor, IsScript}
 use Rattle.run_commands.specs.SimReports.{AreEvents, IsBadLine, first_play, lines_in_file}
 
--- whether it was want of memory that stopped a run that was driven, or a replay
-abbrev pub lacks_memory : Unfinished → Bool
-lacks_memory (ends.Refused refusal) = is_no_memory refusal
-lacks_memory ends.TooLong = false
-
+-- whether it was want of memory that stopped a replay
 abbrev pub replay_lacks_memory : ReplayStop → Bool
 replay_lacks_memory stops.NoMemory = true
 replay_lacks_memory stops.TooLong = false

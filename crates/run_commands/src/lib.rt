@@ -8,6 +8,7 @@ mod page_command;
 mod replay_inputs;
 mod replays;
 mod run_command;
+mod run_stops;
 mod sim_command;
 mod so_far_command;
 mod state_command;

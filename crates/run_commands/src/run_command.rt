@@ -6,6 +6,7 @@ ghost use Rattle.script_commands.specs.Scripts.{IsUnwritten};
 ghost use Rattle.run_commands.specs.RunReports.{ExplainsRun, IsReportOf, IsRunBegun, IsRunReported, IsRunStop};
 
 use crate::form::Form;
+use crate::run_stops::run_refusal;
 use crate::telling::{SoFar, told};
 use fault_runs::{Board, Cluster, Core, drive};
 use raysim_streams::{CommandRefusal, Sink, Source, put_all};
@@ -35,9 +36,7 @@ fn run_script<S: ScriptName, L: Watcher>(
     let mut board = Board::new(core);
     let mut sent = Seq::new(alloc);
     if let Err(unfinished) = drive(alloc, &mut board, &mut sent, script, watcher) {
-        return Err(CommandRefusal::Stopped {
-            code: unfinished.number(),
-        });
+        return Err(run_refusal(unfinished));
     }
     let nowhere = Seq::new(alloc);
     told(alloc, &board, &sent, &nowhere, form)
@@ -47,10 +46,10 @@ fn run_script<S: ScriptName, L: Watcher>(
 /// (docs/runs.md, "The report"), or the same as one line of JSON. The status is 0 where main ends with a value, 1 where it ends with a
 /// trap, and 2 where it is open or has a fault.
 ///
-/// Else the refusal says why: `At` where the text is no script that the rules allow, `NoMemory`, `Stopped` where the run stops before
-/// its end, with the number that an event of it is refused (37 at a limit), or with 41 after 100,000 turns; or `Failed` where a read or a
-/// write failed within the call. After a failed write a beginning of the report is out; before any other refusal nothing is written. The
-/// watcher looks on while the run goes on, and changes nothing.
+/// Else the refusal says why: `At` where the text is no script that the rules allow, `NoMemory`, `Stopped` where the run stops before its
+/// end for another cause, with the number that an event of it is refused (37 at a limit), or with 41 after 100,000 turns; or `Failed` where
+/// a read or a write failed within the call. After a failed write a beginning of the report is out; before any other refusal nothing is
+/// written. The watcher looks on while the run goes on, and changes nothing.
 pub fn run<R: Source, W: Sink, L: Watcher>(
     alloc: Global,
     reader: &mut R,

@@ -2,17 +2,17 @@
 
 ghost use Rattle.std.specs.Prelude.{◌≡◌, false, IfOk, IfErr, OnOk, string_bytes};
 ghost use Rattle.script_check.specs.Trees.{script_of};
-ghost use Rattle.protocol_board.specs.Replays.{is_no_memory};
 ghost use Rattle.protocol_board.specs.Views.{course_of};
 ghost use Rattle.script_commands.specs.Scripts.{ExplainsText};
-ghost use Rattle.run_commands.specs.SoFar.{ExplainsTexts, IsDriven, IsReplaySoFar, IsReplayToldOf, IsRunSoFar, IsRunToldOf, lacks_memory};
+ghost use Rattle.run_commands.specs.RunReports.{lacks_memory};
+ghost use Rattle.run_commands.specs.SoFar.{ExplainsTexts, IsDriven, IsReplaySoFar, IsReplayToldOf, IsRunSoFar, IsRunToldOf};
 
 use crate::event_lines::{EventLines, event_lines};
 use crate::form::Form;
 use crate::replays::replayed_so_far;
+use crate::run_stops::lacks_memory;
 use crate::telling::{SoFar, told, told_replay};
 use fault_runs::{Board, Cluster, Core, drive};
-use log_entries::Refusal;
 use protocol_board::Unfinished;
 use raysim_streams::CommandRefusal;
 use run_watch::Unwatched;
@@ -21,22 +21,6 @@ use segment::{Compiled, ScriptName};
 use sequence::Seq;
 use std::alloc::Global;
 use std::marker::Brand;
-
-fn is_no_memory(refusal: Refusal) -> bool
-    ensures { result ≡ is_no_memory refusal }
-{
-    matches!(refusal, Refusal::NoMemory)
-}
-
-/// Whether it was want of memory that stopped a run.
-fn lacks_memory(unfinished: Unfinished) -> bool
-    ensures { result ≡ lacks_memory unfinished }
-{
-    match unfinished {
-        Unfinished::Refused(refusal) => is_no_memory(refusal),
-        Unfinished::TooLong => false,
-    }
-}
 
 /// A run that was stopped is told as far as it went, unless it was stopped for want of memory.
 fn but_for_memory(unfinished: Unfinished) -> Result<(), CommandRefusal>

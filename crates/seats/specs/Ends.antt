@@ -82,6 +82,19 @@ HasEnded script is_open plan size (ends.Over board) = IsOverBeside script is_ope
 HasEnded script is_open plan size (ends.AtLimit board) = IsAtLimit script is_open plan size board
 HasEnded script is_open plan size ends.NoMemory = Unit {0}
 
+-- a run is given up for want of memory: an event found none (39), or came behind one that did (38), or there was none for something else
+abbrev pub IsForMemory : Option Refusal → Type 0
+IsForMemory None = ⊥
+IsForMemory (Some refusals.NoMemory) = Unit {0}
+IsForMemory (Some refusals.Halted) = Unit {0}
+IsForMemory (Some refusal) = ⊥
+
+-- it ends for want of memory only where it was given up for that
+abbrev pub EndsFor : {X : Type 0} → Option Refusal → Ended X → Type 0
+EndsFor given_up (ends.Over board) = Unit {0}
+EndsFor given_up (ends.AtLimit board) = Unit {0}
+EndsFor given_up ends.NoMemory = IsForMemory given_up
+
 -- the log of a run that ended, unless there was no memory
 abbrev pub log_at : {X : Type 0} → Ended X → Option (List Entry)
 log_at (ends.Over board) = Some board.log

@@ -9,7 +9,7 @@ ghost use Rattle.run_paths.specs.of_protocol_board.Cores.{IsSoundLog};
 ghost use Rattle.books.specs.SeatTotals.{seat_totals};
 ghost use Rattle.run_paths.specs.Paths.{IsTrueDone};
 ghost use Rattle.seats.specs.Counted.{AddsFrom, IsFresh, counted};
-ghost use Rattle.seats.specs.Ends.{HasEnded, IsOverBeside, log_at, size_of};
+ghost use Rattle.seats.specs.Ends.{EndsFor, HasEnded, IsOverBeside, log_at, size_of};
 ghost use Rattle.seats.specs.Outside.{MayApply, Passes};
 ghost use Rattle.seats.specs.Seated.{AreFrom, StaysFrom};
 ghost use Rattle.seats.specs.Turns.{Follows, Plans, Takes, Turned, choice, due, is_at_end, or_first, past_line, turn_counted};
@@ -306,11 +306,12 @@ impl<S: ScriptName, P: RunName> Turning<S, P> {
         self.board.next(&nobody).is_none()
     }
 
-    /// How the run ended: over, at a limit, or for want of memory; with its board but in the last case.
+    /// How the run ended: over, at a limit, or for want of memory, only where it was given up for that; with its board but in the last case.
     pub fn into_end(self) -> Ended<S>
         requires { self.given_up ≡ None → IsOverBeside S.script P.is_open P.plan P.size self.run }
         ensures ended { HasEnded S.script P.is_open P.plan P.size result }
         ensures log { IfSome (log_at result) (λ log. log ≡ self.run.log) }
+        ensures memory { EndsFor self.given_up result }
     {
         let given_up = self.given_up;
         let board = self.into_board();

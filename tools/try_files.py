@@ -465,7 +465,7 @@ def try_explanations(trial):
 
 def try_limits(trial):
     """What is told of limits, also without --explain."""
-    # (crates/worked_runs/data/parties.cases tells how the event is found)
+    # (crates/worked_runs/data/endpoints.cases tells how the event is found)
     many = b"fn f() -> int { return 1; }\nfn main() -> int {\n    let l = empty ref int;\n    for i in 0 .. 1100 { set l = push(l, remote f()); }\n"
     many += b"    for i in 0 .. 1100 { let unused = get l[i]; }\n    return 0;\n}\n"
     FILES["bad.ray"] = many
@@ -492,7 +492,7 @@ def try_limits(trial):
     trial.run("run sq.ray --so-far --threads 2", 1, "--so-far is for no run on threads\n")
 
 
-def try_parties(trial):
+def try_endpoints(trial):
     """Why workers and nodes are as they are, in a run that is driven, and what is no name of anything."""
     told = b"w2 was opened on n1 in event 3 (deliver 1), for a1.1#0 (sq).\na1.1#0 (sq) began on w2 in event 5 (deliver 3).\n"
     FILES["two.ray"] = b"fn sq(x: int) -> int { return x * x; }\nfn main() -> int { let a = remote sq(3); let b = remote sq(4); return get a + get b; }\n"
@@ -604,7 +604,7 @@ def main():
         why = unable(trial)
         if why:
             sys.exit(f"try_files: nothing was tried. {why}")
-        parts = [try_refusals, try_writes, try_failures, try_standard_output, try_heads, try_life, try_explanations, try_limits, try_parties, try_names]
+        parts = [try_refusals, try_writes, try_failures, try_standard_output, try_heads, try_life, try_explanations, try_limits, try_endpoints, try_names]
         for part in parts:
             part(trial)
         print(f"{trial.passed} passed, {trial.failed} failed")

@@ -1,5 +1,5 @@
 -- So many turns of the settle rule, and one more; and what a turn's commit comes to.
-use Rattle.std.proofs.Common.{◌≡◌, ◌∙◌, ℕ, suc, ◌+◌, List, [], ◌∷◌, ◌++◌, length, Some, refl, sym, ap, subst, inr, arith}
+use Rattle.std.proofs.Common.{◌≡◌, ◌∙◌, ℕ, suc, List, [], ◌∷◌, ◌++◌, length, Some, refl, sym, ap, subst, inr}
 use Rattle.std.specs.Prelude.{slice_set}
 use Rattle.meaning.specs.Syntax.{Script}
 use Rattle.segment.specs.Jobs.{JobParts, Done, IsTrueOf}
@@ -18,10 +18,10 @@ next_turn : (script : Script) (n : ℕ) (before between after : Course) (e : Eve
 unfolding Turns
 next_turn script n before between after e h named t = (between, e, h, named, t)
 
-pub one_more : (script : Script) (n : ℕ) (before between after : Course) (e : Event) → Turns script n before between → IsNext between e → Turn script between e after → Turns script (n + 1) before after
-one_more script n before between after e h named t =
-    let same : ◌≡◌ {A = ℕ} (suc n) (n + 1) = omega arith in
-    subst (λ k. Turns script k before after) same (next_turn script n before between after e h named t)
+-- some turns, and one more
+pub one_more : (script : Script) (before between after : Course) (e : Event) → ((n : ℕ) × Turns script n before between) → IsNext between e →
+    Turn script between e after → (n : ℕ) × Turns script n before after
+one_more script before between after e h named t = (suc h.0, next_turn script h.0 before between after e h.1 named t)
 
 -- the rule names it, where nobody is left out
 pub is_next : (c : Course) (but : List ℕ) (e : Event) → but ≡ [] → Some e ≡ next c.run.whole but → IsNext c e

@@ -8,8 +8,6 @@ use Rattle.log_entries.specs.declared.refusal.Refusal.TheVariants as refusals
 use Rattle.protocol.specs.Settling.{next}
 use Rattle.protocol_core.specs.States.{RunState}
 use Rattle.protocol_core.specs.Steps.{Answers, Reply, GivesJob, Accepts, Refuses}
-use Rattle.protocol_board.specs.declared.unfinished.Unfinished.{Unfinished}
-use Rattle.protocol_board.specs.declared.unfinished.Unfinished.TheVariants as stops
 
 -- a run, and behind each event how many messages had been sent
 pub record Course : Type 0 where
@@ -68,8 +66,7 @@ Turns script (suc n) before after = (between : Course) × (e : Event) × Turns s
 abbrev pub EndsSo : Script → Course → Course → Type 0
 EndsSo script before after = (n : ℕ) × Turns script n before after × (next after.run.whole [] ≡ None)
 
--- turns up to one that breaks off; or 100,000 of them, and there would be more
-abbrev pub StopsSo : Script → Course → Course → Unfinished → Type 0
-StopsSo script before after (stops.Refused refusal) =
+-- turns up to one that breaks off
+abbrev pub StopsSo : Script → Course → Course → Refusal → Type 0
+StopsSo script before after refusal =
     (n : ℕ) × (between : Course) × (e : Event) × Turns script n before between × IsNext between e × BreaksOff script between e after refusal
-StopsSo script before after stops.TooLong = Turns script 100000 before after × (e : Event) × IsNext after e

@@ -11,7 +11,6 @@ ghost use Rattle.protocol_board.specs.Own.{FramesAreOwn};
 ghost use Rattle.protocol_board.specs.Views.{course_of};
 
 use crate::board::Board;
-use crate::unfinished::Unfinished;
 use kept_frames::Frames;
 use log_entries::{Event, Refusal};
 use protocol_core::Reply;
@@ -19,9 +18,6 @@ use run_watch::Watcher;
 use segment::{Compiled, Done, Job, ScriptName};
 use sequence::Seq;
 use std::alloc::Global;
-
-/// The most turns of a drive.
-const MOST_TURNS: u32 = 100_000;
 
 /// The refusal that is told, if one is.
 fn taken<S: ScriptName>(told: Reply<S>) -> Result<(), Refusal>
@@ -117,31 +113,26 @@ fn take_turn<S: ScriptName>(
 /// the job is run, and what was done on it is committed in the same turn. An attempt that waits goes on from its frame. Behind each event,
 /// how many messages were sent so far is put at the end of `sent`. The watcher looks on behind each turn, and changes nothing.
 ///
-/// It stops where an event is refused, where memory runs out while a job runs (`NoMemory`), and with `TooLong` after 100,000 turns. The
-/// log then has what was applied.
+/// It stops where an event is refused, with that refusal, and where memory runs out while a job runs (`NoMemory`). The log then has what was
+/// applied. There is no limit of turns: each adds an event to the log, and a list can't have more items than memory has places.
 pub fn drive<S: ScriptName, W: Watcher>(
     alloc: Global,
     board: &mut Board<S>,
     sent: &mut Seq<usize>,
     script: &Compiled,
     watcher: &mut W,
-) -> Result<(), Unfinished>
+) -> Result<(), Refusal>
     requires { script_of script.now ≡ S.script }
     ensures ends { OnOk result (EndsSo S.script (course_of board.old sent.old) (course_of board.new sent.new)) }
-    ensures stops { IfErr result (λ unfinished. StopsSo S.script (course_of board.old sent.old) (course_of board.new sent.new) unfinished) }
+    ensures stops { IfErr result (λ refusal. StopsSo S.script (course_of board.old sent.old) (course_of board.new sent.new) refusal) }
 {
     let nobody = Seq::new(alloc);
     let mut frames = Frames::new(alloc);
-    for turn in 0..MOST_TURNS {
-        let _ = turn;
-        let Some(event) = board.next(&nobody) else {
-            return Ok(());
-        };
+    while let Some(event) = board.next(&nobody) {
         take_turn(alloc, board, sent, script, &mut frames, event)?;
         watcher.look(board.log());
+        // The list grows with each turn, and its length fits: so there is a last turn.
+        let _ = sent.len();
     }
-    match board.next(&nobody) {
-        Some(_) => Err(Unfinished::TooLong),
-        None => Ok(()),
-    }
+    Ok(())
 }

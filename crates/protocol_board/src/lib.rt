@@ -7,11 +7,9 @@ mod driving;
 mod given;
 mod replay;
 mod stopped;
-mod unfinished;
 
 pub use crate::board::Board;
 pub use driving::drive;
 pub use protocol_core::{Cluster, Core, Reply};
 pub use replay::Replay;
 pub use stopped::ReplayStop;
-pub use unfinished::Unfinished;

@@ -2,13 +2,14 @@
 use Rattle.std.proofs.Common.{◌≡◌, ◌∙◌, ℕ, Bool, true, false, if◌then◌else◌, List, [], refl, sym, ap, subst}
 use Rattle.meaning.specs.Syntax.{Script}
 use Rattle.protocol_board.specs.Cores.{IsSoundLog, RunState, Size, first_state}
-use Rattle.protocol_board.specs.declared.unfinished.Unfinished.{Unfinished}
-use Rattle.protocol_board.specs.Stops.{unfinished_code}
+use Rattle.log_entries.specs.Refusals.{code_of}
+use Rattle.log_entries.specs.declared.refusal.Refusal.{Refusal}
+use Rattle.protocol_board.specs.Replays.{is_no_memory}
 use Rattle.protocol_board.specs.Drives.{Course, EndsSo, StopsSo}
 use Rattle.raysim_streams.specs.declared.CommandRefusal.{CommandRefusal}
 use Rattle.raysim_streams.specs.declared.CommandRefusal.TheVariants.{NoMemory, Stopped}
 use Rattle.run_commands.specs.declared.form.Form.{Form}
-use Rattle.run_commands.specs.RunReports.{IsReportOf, IsRunStop, first_run, lacks_memory, run_refusal}
+use Rattle.run_commands.specs.RunReports.{IsReportOf, IsRunStop, first_run, run_refusal}
 use Rattle.run_commands.specs.SoFar.{IsToldOf}
 use Rattle.run_commands.proofs.Lasting.{run_goes_on}
 
@@ -28,17 +29,17 @@ run_ends script named size form before after nowhere report status own first end
     let here = subst (λ l. IsToldOf form after.run after.sent l report status) none told in
     (after, record { ends = driven; goes_on = run_goes_on script size after driven; meant = sound }, here.0, here.1)
 
-stops_by : (script : Script) (size : Size) (after : Course) (unfinished : Unfinished) (is_lacking : Bool) → lacks_memory unfinished ≡ is_lacking →
-    StopsSo script (first_run size) after unfinished → IsRunStop script size (if is_lacking then NoMemory else Stopped (unfinished_code unfinished))
-stops_by script size after unfinished true lacks stops = tt
-stops_by script size after unfinished false lacks stops = (after, unfinished, lacks, stops, refl)
+stops_by : (script : Script) (size : Size) (after : Course) (why : Refusal) (is_lacking : Bool) → is_no_memory why ≡ is_lacking →
+    StopsSo script (first_run size) after why → IsRunStop script size (if is_lacking then NoMemory else Stopped (code_of why))
+stops_by script size after why true lacks stops = tt
+stops_by script size after why false lacks stops = (after, why, lacks, stops, refl)
 
 -- it stops before its end
-pub run_stops : (script named : Script) (size : Size) (before after : Course) (unfinished : Unfinished) (refusal : CommandRefusal) →
-    script ≡ named → before ≡ first_run size → StopsSo named before after unfinished → refusal ≡ run_refusal unfinished → IsRunStop script size refusal
-run_stops script named size before after unfinished refusal own first stops same =
-    let driven = subst (λ s. StopsSo s (first_run size) after unfinished) (sym own) (subst (λ b. StopsSo named b after unfinished) first stops) in
-    subst (λ r. IsRunStop script size r) (sym same) (stops_by script size after unfinished (lacks_memory unfinished) refl driven)
+pub run_stops : (script named : Script) (size : Size) (before after : Course) (why : Refusal) (refusal : CommandRefusal) →
+    script ≡ named → before ≡ first_run size → StopsSo named before after why → refusal ≡ run_refusal why → IsRunStop script size refusal
+run_stops script named size before after why refusal own first stops same =
+    let driven = subst (λ s. StopsSo s (first_run size) after why) (sym own) (subst (λ b. StopsSo named b after why) first stops) in
+    subst (λ r. IsRunStop script size r) (sym same) (stops_by script size after why (is_no_memory why) refl driven)
 
 -- there is no memory
 pub run_without_memory : (script : Script) (size : Size) (r : CommandRefusal) → r ≡ NoMemory → IsRunStop script size r

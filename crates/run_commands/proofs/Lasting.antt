@@ -16,11 +16,9 @@ use Rattle.protocol_board.specs.Replays.{AllPlay, EventPlays, EventStops, FileSt
 use Rattle.protocol_board.specs.Replays.{Step, StopsAt, found_no_memory, is_no_memory, next_line}
 use Rattle.protocol_board.specs.declared.stopped.ReplayStop.{ReplayStop}
 use Rattle.protocol_board.specs.declared.stopped.ReplayStop.TheVariants as stops
-use Rattle.protocol_board.specs.declared.unfinished.Unfinished.{Unfinished}
-use Rattle.protocol_board.specs.declared.unfinished.Unfinished.TheVariants as ends
 use Rattle.protocol_board.specs.Drives.{BreaksAfter, BreaksOff, Course, EndsSo, Goes, IsTaken, StopsSo, Turn, Turns}
 use Rattle.run_commands.specs.SimReports.{first_play}
-use Rattle.run_commands.specs.RunReports.{first_run, lacks_memory}
+use Rattle.run_commands.specs.RunReports.{first_run}
 use Rattle.run_commands.specs.SoFar.{IsDriven, IsPlayed, replay_lacks_memory}
 
 -- each event so far found memory
@@ -154,12 +152,11 @@ break_off script before after e refusal other (inr (inl goes)) h = behind_refusa
 break_off script before after e refusal other (inr (inr (claimed, job, goes, breaks))) h =
     break_after script claimed after job refusal other breaks (behind_going before claimed e None (GivesJob job) goes tt h)
 
-run_stop_goes_on : (script : Script) (size : Size) (after : Course) (unfinished : Unfinished) → lacks_memory unfinished ≡ false →
-    StopsSo script (first_run size) after unfinished → FoundMemory after.run
-run_stop_goes_on script size after (ends.Refused refusal) other (n, between, e, turned, is_next, breaks) =
+run_stop_goes_on : (script : Script) (size : Size) (after : Course) (refusal : Refusal) → is_no_memory refusal ≡ false →
+    StopsSo script (first_run size) after refusal → FoundMemory after.run
+run_stop_goes_on script size after refusal other (n, between, e, turned, is_next, breaks) =
     break_off script between after e refusal other breaks (behind_turns script n (first_run size) between turned refl)
-run_stop_goes_on script size after ends.TooLong other (turned, e, is_next) = behind_turns script 100000 (first_run size) after turned refl
 
 pub driven_goes_on : (script : Script) (size : Size) (after : Course) → IsDriven script (first_run size) after → FoundMemory after.run
 driven_goes_on script size after (inl ended) = run_goes_on script size after ended
-driven_goes_on script size after (inr (unfinished, other, s)) = run_stop_goes_on script size after unfinished other s
+driven_goes_on script size after (inr (refusal, other, s)) = run_stop_goes_on script size after refusal other s

@@ -5,10 +5,9 @@ use Rattle.meaning.specs.Syntax.{Script}
 use Rattle.report_text.specs.Main.{status_of}
 use Rattle.protocol_board.specs.Cores.{Size, first_state}
 use Rattle.protocol_board.specs.Cores.{IsSoundLog}
-use Rattle.protocol_board.specs.declared.unfinished.Unfinished.{Unfinished}
-use Rattle.protocol_board.specs.declared.unfinished.Unfinished.TheVariants as ends
+use Rattle.log_entries.specs.Refusals.{code_of}
+use Rattle.log_entries.specs.declared.refusal.Refusal.{Refusal}
 use Rattle.protocol_board.specs.Replays.{is_no_memory}
-use Rattle.protocol_board.specs.Stops.{unfinished_code}
 use Rattle.protocol_board.specs.Drives.{Course, EndsSo, StopsSo}
 use Rattle.raysim_streams.specs.declared.CommandRefusal.{CommandRefusal}
 use Rattle.raysim_streams.specs.declared.CommandRefusal.TheVariants.{At, NoMemory, Stopped as Stops, BadLine, WrongJob, Failed}
@@ -32,22 +31,17 @@ abbrev pub IsReportOf : Script → Size → Form → List ℕ → ℕ → Type 0
 IsReportOf script size form report status =
     (c : Course) × IsEndOf script size c × IsReportIn form (account_of c.run c.sent []) report × (status ≡ status_of c.run.log)
 
--- whether it was want of memory that stopped a run
-abbrev pub lacks_memory : Unfinished → Bool
-lacks_memory (ends.Refused refusal) = is_no_memory refusal
-lacks_memory ends.TooLong = false
-
 -- why a run that is stopped so gives no report
-abbrev pub run_refusal : Unfinished → CommandRefusal
-run_refusal unfinished = if lacks_memory unfinished then NoMemory else Stops (unfinished_code unfinished)
+abbrev pub run_refusal : Refusal → CommandRefusal
+run_refusal refusal = if is_no_memory refusal then NoMemory else Stops (code_of refusal)
 
 -- why a run of the script gives no report; want of memory, which may come anywhere, is no stop with a number
 abbrev pub IsRunStop : Script → Size → CommandRefusal → Type 0
 IsRunStop script size (At code span) = ⊥
 IsRunStop script size NoMemory = Unit {0}
 IsRunStop script size (Stops code) =
-    (c : Course) × (unfinished : Unfinished) × (lacks_memory unfinished ≡ false)
-    × StopsSo script (first_run size) c unfinished × (code ≡ unfinished_code unfinished)
+    (c : Course) × (refusal : Refusal) × (is_no_memory refusal ≡ false)
+    × StopsSo script (first_run size) c refusal × (code ≡ code_of refusal)
 IsRunStop script size (BadLine line) = ⊥
 IsRunStop script size (WrongJob line) = ⊥
 IsRunStop script size (Failed failure) = ⊥

@@ -6,14 +6,14 @@ use Rattle.report_text.specs.Main.{status_of}
 use Rattle.protocol_board.specs.Cores.{IsSoundLog, RunState, Size}
 use Rattle.protocol_board.specs.declared.stopped.ReplayStop.{ReplayStop}
 use Rattle.protocol_board.specs.declared.stopped.ReplayStop.TheVariants as stops
-use Rattle.protocol_board.specs.declared.unfinished.Unfinished.{Unfinished}
+use Rattle.log_entries.specs.declared.refusal.Refusal.{Refusal}
 use Rattle.protocol_board.specs.Drives.{Course, EndsSo, StopsSo}
-use Rattle.protocol_board.specs.Replays.{FileStops, Play, PlaysFile}
+use Rattle.protocol_board.specs.Replays.{FileStops, Play, PlaysFile, is_no_memory}
 use Rattle.raysim_streams.specs.declared.CommandRefusal.{CommandRefusal}
 use Rattle.raysim_streams.specs.declared.CommandRefusal.TheVariants.{At, NoMemory, Stopped as Stops, BadLine, WrongJob, Failed}
 use Rattle.run_commands.specs.declared.form.Form.{Form}
 use Rattle.run_commands.specs.Reports.{IsAsSerialIn, IsReportIn, account_of}
-use Rattle.run_commands.specs.RunReports.{first_run, lacks_memory}
+use Rattle.run_commands.specs.RunReports.{first_run}
 use Rattle.script_commands.specs.Scripts.{IsNoScriptFor, IsScript}
 use Rattle.run_commands.specs.SimReports.{AreEvents, IsBadLine, first_play, lines_in_file}
 
@@ -26,7 +26,7 @@ replay_lacks_memory stops.WrongJob = false
 -- it was driven until nothing was left to do, or to where it stops; want of memory, which may come anywhere, is no such stop
 abbrev pub IsDriven : Script → Course → Course → Type 0
 IsDriven script before after =
-    EndsSo script before after ⊎ ((unfinished : Unfinished) × (lacks_memory unfinished ≡ false) × StopsSo script before after unfinished)
+    EndsSo script before after ⊎ ((refusal : Refusal) × (is_no_memory refusal ≡ false) × StopsSo script before after refusal)
 
 -- all that the file says was played, or up to where the replay stops, alike
 abbrev pub IsPlayed : Script → EventFile → Play → Play → Type 0

@@ -35,8 +35,8 @@ fn run_script<S: ScriptName, L: Watcher>(
     };
     let mut board = Board::new(core);
     let mut sent = Seq::new(alloc);
-    if let Err(unfinished) = drive(alloc, &mut board, &mut sent, script, watcher) {
-        return Err(run_refusal(unfinished));
+    if let Err(refusal) = drive(alloc, &mut board, &mut sent, script, watcher) {
+        return Err(run_refusal(refusal));
     }
     let nowhere = Seq::new(alloc);
     told(alloc, &board, &sent, &nowhere, form)
@@ -47,8 +47,8 @@ fn run_script<S: ScriptName, L: Watcher>(
 /// trap, and 2 where it is open or has a fault.
 ///
 /// Else the refusal says why: `At` where the text is no script that the rules allow, `NoMemory`, `Stopped` where the run stops before its
-/// end for another cause, with the number that an event of it is refused (37 at a limit), or with 41 after 100,000 turns; or `Failed` where
-/// a read or a write failed within the call. After a failed write a beginning of the report is out; before any other refusal nothing is
+/// end for another cause, with the number that an event of it is refused (37 at a limit); or `Failed` where a read or a write failed within
+/// the call. After a failed write a beginning of the report is out; before any other refusal nothing is
 /// written. The watcher looks on while the run goes on, and changes nothing.
 pub fn run<R: Source, W: Sink, L: Watcher>(
     alloc: Global,

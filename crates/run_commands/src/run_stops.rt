@@ -2,36 +2,26 @@
 
 ghost use Rattle.std.specs.Prelude.{◌≡◌};
 ghost use Rattle.protocol_board.specs.Replays.{is_no_memory};
-ghost use Rattle.run_commands.specs.RunReports.{lacks_memory, run_refusal};
+ghost use Rattle.run_commands.specs.RunReports.{run_refusal};
 
 use log_entries::Refusal;
-use protocol_board::Unfinished;
 use raysim_streams::CommandRefusal;
 
-fn is_no_memory(refusal: Refusal) -> bool
+/// Whether it was want of memory that stopped a run.
+pub fn is_no_memory(refusal: Refusal) -> bool
     ensures { result ≡ is_no_memory refusal }
 {
     matches!(refusal, Refusal::NoMemory)
 }
 
-/// Whether it was want of memory that stopped a run.
-pub fn lacks_memory(unfinished: Unfinished) -> bool
-    ensures { result ≡ lacks_memory unfinished }
-{
-    match unfinished {
-        Unfinished::Refused(refusal) => is_no_memory(refusal),
-        Unfinished::TooLong => false,
-    }
-}
-
 /// Why a run that is stopped so gives no report.
-pub fn run_refusal(unfinished: Unfinished) -> CommandRefusal
-    ensures { result ≡ run_refusal unfinished }
+pub fn run_refusal(refusal: Refusal) -> CommandRefusal
+    ensures { result ≡ run_refusal refusal }
 {
-    if lacks_memory(unfinished) {
+    if is_no_memory(refusal) {
         return CommandRefusal::NoMemory;
     }
     CommandRefusal::Stopped {
-        code: unfinished.number(),
+        code: refusal.number(),
     }
 }

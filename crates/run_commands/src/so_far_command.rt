@@ -4,16 +4,16 @@ ghost use Rattle.std.specs.Prelude.{◌≡◌, false, IfOk, IfErr, OnOk, string_
 ghost use Rattle.script_check.specs.Trees.{script_of};
 ghost use Rattle.protocol_board.specs.Views.{course_of};
 ghost use Rattle.script_commands.specs.Scripts.{ExplainsText};
-ghost use Rattle.run_commands.specs.RunReports.{lacks_memory};
+ghost use Rattle.protocol_board.specs.Replays.{is_no_memory};
 ghost use Rattle.run_commands.specs.SoFar.{ExplainsTexts, IsDriven, IsReplaySoFar, IsReplayToldOf, IsRunSoFar, IsRunToldOf};
 
 use crate::event_lines::{EventLines, event_lines};
 use crate::form::Form;
 use crate::replays::replayed_so_far;
-use crate::run_stops::lacks_memory;
+use crate::run_stops::is_no_memory;
 use crate::telling::{SoFar, told, told_replay};
 use fault_runs::{Board, Cluster, Core, drive};
-use protocol_board::Unfinished;
+use log_entries::Refusal;
 use raysim_streams::CommandRefusal;
 use run_watch::Unwatched;
 use script_commands::compiled_script;
@@ -23,11 +23,11 @@ use std::alloc::Global;
 use std::marker::Brand;
 
 /// A run that was stopped is told as far as it went, unless it was stopped for want of memory.
-fn but_for_memory(unfinished: Unfinished) -> Result<(), CommandRefusal>
-    ensures stopped { OnOk result (lacks_memory unfinished ≡ false) }
+fn but_for_memory(refusal: Refusal) -> Result<(), CommandRefusal>
+    ensures stopped { OnOk result (is_no_memory refusal ≡ false) }
     ensures only { IfErr result (λ refusal. refusal ≡ CommandRefusal.NoMemory) }
 {
-    if lacks_memory(unfinished) {
+    if is_no_memory(refusal) {
         return Err(CommandRefusal::NoMemory);
     }
     Ok(())
@@ -46,7 +46,7 @@ pub fn drive_so_far<S: ScriptName>(
 {
     match drive(alloc, board, sent, script, &mut Unwatched) {
         Ok(()) => Ok(()),
-        Err(unfinished) => but_for_memory(unfinished),
+        Err(refusal) => but_for_memory(refusal),
     }
 }
 
@@ -74,8 +74,8 @@ fn run_script<S: ScriptName>(
     told(alloc, &board, &sent, &nowhere, form)
 }
 
-/// What is written of the run of a script as `run` drives it, up to its end, or to the event that is refused (at a limit, 37), or to the last of
-/// 100,000 turns. The last event that is told of is the one that was refused.
+/// What is written of the run of a script as `run` drives it, up to its end, or to the event that is refused (at a limit, 37), which is then the
+/// last that is told of.
 ///
 /// Else the refusal says why: `At` where the text is no script that the rules allow, or `NoMemory`.
 pub fn run_so_far(

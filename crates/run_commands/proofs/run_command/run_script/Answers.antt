@@ -11,7 +11,7 @@ use Rattle.run_commands.proofs.run_command.run_script.Goals as goal
 pub returns-in-Err-drive-clause-stopped : goal.returns-in-Err-drive-clause-stopped
 returns-in-Err-drive-clause-stopped g c =
     run_stops (script_of c.args.script.now) g.S.ScriptName.script c.args.cluster (course_of c.new-board.result c.new-sent.result)
-    (course_of c.drive.new.board c.drive.new.sent) c.in-Err-drive.unfinished c.run_refusal.result c.requires
+    (course_of c.drive.new.board c.drive.new.sent) c.in-Err-drive.refusal c.run_refusal.result c.requires
     (begins_so c.new-board.result c.new-sent.result c.args.cluster (c.new-board.ensures ∙ c.in-Ok.ensures) c.new-sent.ensures)
     c.in-Err-drive.ensures.stops c.run_refusal.ensures
 

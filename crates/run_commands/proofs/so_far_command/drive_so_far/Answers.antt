@@ -7,4 +7,4 @@ returns-in-Ok-clause-driven g c = inl c.in-Ok.ensures.ends
 
 pub returns-in-Err-clause-driven : goal.returns-in-Err-clause-driven
 returns-in-Err-clause-driven g c =
-    on_ok_weaker c.but_for_memory.result (λ other. inr (c.in-Err.unfinished, other, c.in-Err.ensures.stops)) c.but_for_memory.ensures.stopped
+    on_ok_weaker c.but_for_memory.result (λ other. inr (c.in-Err.refusal, other, c.in-Err.ensures.stops)) c.but_for_memory.ensures.stopped

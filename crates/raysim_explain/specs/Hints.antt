@@ -1,10 +1,11 @@
 -- What somebody who writes other languages may have meant: read off the token at fault and the bytes around it.
-use Rattle.std.specs.Prelude.{Bool, List, None, Option, Some, [], codes, drop, if◌then◌else◌, nat_eq, nat_lt, slice_get, take, true, ℕ, ◌&&◌, ◌+◌, ◌-◌, ◌||◌, ◌∷◌, length, fold}
+use Rattle.std.specs.Prelude.{Bool, List, None, Option, Some, [], codes, drop, if◌then◌else◌, nat_eq, nat_lt, not, slice_get, take, true, ℕ, ◌%◌, ◌&&◌, ◌+◌, ◌-◌, ◌||◌, ◌∷◌, length, fold}
 use Rattle.std.specs.Option.{unwrap_or}
 use Rattle.std.specs.Str.{bytes_eq}
 use Rattle.raysim_explain.specs.declared.hint.Hint.{Hint}
 use Rattle.raysim_explain.specs.declared.hint.Hint.TheVariants.{Greater, AtLeast, And, Ampersand, Or, Not, Text, Fraction, Method, CapitalLetter, SlashComment, While}
 use Rattle.raysim_explain.specs.declared.hint.Hint.TheVariants.{ElseIf, Assignment, Statement, LoneCall, EmptyList, LastComma, Colon, NoResult, Truth, Semicolon}
+use Rattle.raysim_explain.specs.declared.hint.Hint.TheVariants.{ListType, Index, Unclosed, NamedArgument, Reserved, Function}
 
 -- the byte at a place, and 0 where there is none
 abbrev pub byte_at : List ℕ → ℕ → ℕ
@@ -71,19 +72,118 @@ statement_hint behind =
     else if is_sum_sign behind then Some Statement
     else None
 
--- of a token that the grammar does not allow there, with the bytes before and behind it that are no blanks
-abbrev pub token_hint : List ℕ → ℕ → ℕ → Option Hint
-token_hint token before behind =
-    if bytes_eq token (codes "while") then Some While
-    else if bytes_eq token (codes "if") && nat_eq before 101 then Some ElseIf
-    else if bytes_eq token (codes "/") && nat_eq behind 47 then Some SlashComment
-    else if bytes_eq token (codes ":") then Some Colon
-    else if bytes_eq token (codes "{") && nat_eq before 41 then Some NoResult
-    else if bytes_eq token (codes "]") && nat_eq before 91 then Some EmptyList
-    else if nat_eq before 44 && (bytes_eq token (codes "]") || bytes_eq token (codes ")")) then Some LastComma
-    else if is_statement_begun before then statement_hint behind
-    else if lacks_semicolon token before then Some Semicolon
+-- a word of a script may have it in it: a small letter, a digit or _
+abbrev pub is_in_word : ℕ → Bool
+is_in_word b = is_letter b || ((nat_lt 47 b && nat_lt b 58) || nat_eq b 95)
+
+-- how many bytes of a word the last word has behind one byte more: all, too, where blanks or a [ follow it, and 99 in another word
+abbrev pub word_step : List ℕ → ℕ → ℕ → ℕ
+word_step word count b =
+    if is_blank b || nat_eq b 91 then (if nat_eq count (length word) then count else 0)
+    else if not (is_in_word b) then 0
+    else if nat_lt count (length word) && nat_eq (byte_at word count) b then count + 1
+    else 99
+
+-- it ends with exactly that word, and blanks or a [ behind it
+abbrev pub is_behind : List ℕ → List ℕ → Bool
+is_behind text word = nat_eq (fold (word_step word) 0 text) (length word)
+
+-- how many brackets of a kind are open behind one byte more; none is behind a brace or a ;
+abbrev pub open_step : ℕ → ℕ → ℕ → ℕ → ℕ
+open_step opens closes count b =
+    if nat_eq b opens && nat_lt count 99 then count + 1
+    else if nat_eq b closes && nat_lt 0 count then count - 1
+    else if is_statement_begun b then 0
+    else count
+
+-- brackets of a kind are open at its end
+abbrev pub is_within : List ℕ → ℕ → ℕ → Bool
+is_within text opens closes = nat_lt 0 (fold (open_step opens closes) 0 text)
+
+-- twice the braces that are open behind one byte more, and one more in a comment, whose braces are none
+abbrev pub brace_step : ℕ → ℕ → ℕ
+brace_step count b =
+    if nat_eq (count % 2) 1 then (if nat_eq b 10 then count - 1 else count)
+    else if nat_eq b 35 && nat_lt count 99 then count + 1
+    else if nat_eq b 123 && nat_lt count 99 then count + 2
+    else if nat_eq b 125 && nat_lt 1 count then count - 2
+    else count
+
+-- it ends outside any function
+abbrev pub is_outside : List ℕ → Bool
+is_outside text = nat_lt (fold brace_step 0 text) 2
+
+-- what stands behind one byte more: a value's end (1), what a type follows (2), a [ behind the one (3) or the other (4), or else (0)
+abbrev pub bracket_step : ℕ → ℕ → ℕ
+bracket_step kind b =
+    if is_blank b then kind
+    else if nat_eq b 91 then (if nat_eq kind 1 then 3 else if nat_eq kind 2 || nat_eq kind 4 then 4 else 0)
+    else if is_value_end b then 1
+    else if nat_eq b 58 || nat_eq b 62 then 2
+    else 0
+
+abbrev pub bracket_kind : List ℕ → ℕ
+bracket_kind text = fold bracket_step 0 text
+
+-- a value stands behind its last word
+abbrev pub is_value_wanted : List ℕ → Bool
+is_value_wanted text =
+    if is_behind text (codes "return") || is_behind text (codes "print") then true
+    else if is_behind text (codes "get") || is_behind text (codes "put") then true
+    else is_behind text (codes "in") || is_behind text (codes "if")
+
+-- a type stands behind its last word
+abbrev pub is_type_wanted : List ℕ → Bool
+is_type_wanted text = is_behind text (codes "empty") || is_behind text (codes "ref")
+
+-- of a ] right behind a [, with which the text before it ends
+abbrev pub bracket_hint : List ℕ → Option Hint
+bracket_hint front =
+    if nat_eq (bracket_kind front) 4 || is_type_wanted front then Some ListType
+    else if nat_eq (bracket_kind front) 3 && not (is_value_wanted front) then Some Index
+    else Some EmptyList
+
+-- of a :, with the text before it
+abbrev pub colon_hint : List ℕ → Option Hint
+colon_hint front = if is_within front 91 93 then None else if is_within front 40 41 then Some NamedArgument else Some Colon
+
+-- a word of the language
+abbrev pub is_reserved : List ℕ → Bool
+is_reserved token =
+    if is_statement_word token || (bytes_eq token (codes "fn") || bytes_eq token (codes "else")) then true
+    else if bytes_eq token (codes "in") || (bytes_eq token (codes "int") || bytes_eq token (codes "ref")) then true
+    else if bytes_eq token (codes "remote") || (bytes_eq token (codes "put") || bytes_eq token (codes "get")) then true
+    else bytes_eq token (codes "len") || (bytes_eq token (codes "push") || bytes_eq token (codes "empty"))
+
+-- a name stands behind a text that ends with that byte: ( or a comma, or a word before a name
+abbrev pub is_name_wanted : List ℕ → ℕ → Bool
+is_name_wanted front before =
+    if nat_eq before 40 || nat_eq before 44 then true
+    else if is_behind front (codes "fn") || is_behind front (codes "let") then true
+    else is_behind front (codes "set") || is_behind front (codes "for")
+
+-- of a token at which a function or a statement was to begin, with the text before it and the byte behind it
+abbrev pub begun_hint : List ℕ → List ℕ → ℕ → Option Hint
+begun_hint token front behind =
+    if not (is_outside front) then statement_hint behind
+    else if is_letter (byte_at token 0) && not (nat_eq behind 0) then Some Function
     else None
+
+-- of a token that the grammar does not allow there, with the text before it and the bytes before and behind it that are no blanks
+abbrev pub token_hint : List ℕ → List ℕ → ℕ → ℕ → Option Hint
+token_hint token front before behind =
+    if bytes_eq token (codes "while") then Some While
+    else if bytes_eq token (codes "if") && is_behind front (codes "else") then Some ElseIf
+    else if bytes_eq token (codes "/") && nat_eq behind 47 then Some SlashComment
+    else if bytes_eq token (codes ":") then colon_hint front
+    else if bytes_eq token (codes "{") && nat_eq before 41 then Some NoResult
+    else if bytes_eq token (codes "]") && nat_eq before 91 then bracket_hint front
+    else if nat_eq before 44 && (bytes_eq token (codes "]") || bytes_eq token (codes ")")) then Some LastComma
+    else if is_reserved token && is_name_wanted front before then Some Reserved
+    else if nat_eq before 0 || is_statement_begun before then begun_hint token front behind
+    else if not (lacks_semicolon token before) then None
+    else if is_within front 91 93 || is_within front 40 41 then Some Unclosed
+    else Some Semicolon
 
 -- of a name that is not in scope
 abbrev pub name_hint : List ℕ → Option Hint
@@ -97,7 +197,7 @@ span_bytes text start end = take (end - start) (drop start text)
 abbrev pub hint_at : ℕ → List ℕ → ℕ → ℕ → Option Hint
 hint_at code text start end =
     if nat_eq code 2 then sign_hint (byte_at text start) (byte_at text (start + 1))
-    else if nat_eq code 3 then token_hint (span_bytes text start end) (byte_before (take start text)) (byte_behind (drop end text))
+    else if nat_eq code 3 then token_hint (span_bytes text start end) (take start text) (byte_before (take start text)) (byte_behind (drop end text))
     else if nat_eq code 10 then name_hint (span_bytes text start end)
     else None
 
@@ -123,8 +223,14 @@ hint_words Assignment = codes "a variable gets another value by set: set x = 2;"
 hint_words Statement = codes "a statement begins with let, set, if, for, print or return: set x = x + 1;"
 hint_words LoneCall = codes "a call alone is no statement: let unused = f();"
 hint_words EmptyList = codes "an empty list says of which type its items are: empty int"
+hint_words ListType = codes "a list's type names that of its items: [int]"
+hint_words Index = codes "an index stands between the brackets: l[0]"
 hint_words LastComma = codes "no comma stands behind the last one"
 hint_words Colon = codes "a block stands in { } and not behind a :, and a variable's type isn't written: let x = 1;"
 hint_words NoResult = codes "a function says of which type its result is, fn f() -> int { }, and a loop has two bounds, for i in 0 .. 10 { }"
 hint_words Truth = codes "there are no truth values: 1 and 0 stand for them"
 hint_words Semicolon = codes "a statement ends with ;, and the block of an if or a for stands in { }"
+hint_words Unclosed = codes "a ( or a [ before it is not closed"
+hint_words NamedArgument = codes "an argument has no name: f(1)"
+hint_words Reserved = codes "this is a word of the language, and can't be a name"
+hint_words Function = codes "a function begins with fn, and every statement stands in one"

@@ -1,8 +1,11 @@
 // What somebody who writes other languages may have meant. docs/refusals.md has the same in a table.
 
 ghost use Rattle.std.specs.Prelude.{◌≡◌};
-ghost use Rattle.raysim_explain.specs.Hints.{byte_at, byte_before, byte_behind, hint_of, hint_words, is_blank, is_letter, is_sum_sign, is_statement_begun, name_hint, sign_hint, statement_hint, token_hint};
-ghost use Rattle.raysim_explain.specs.Hints.{is_statement_word, is_value_end, lacks_semicolon};
+ghost use Rattle.raysim_explain.specs.Hints.{begun_hint, brace_step, bracket_hint, bracket_kind, bracket_step, byte_at, byte_before, byte_behind};
+ghost use Rattle.raysim_explain.specs.Hints.{colon_hint, hint_of, hint_words, is_behind, is_blank, is_in_word, is_letter, is_name_wanted, is_outside};
+ghost use Rattle.raysim_explain.specs.Hints.{is_reserved, is_statement_begun, is_statement_word, is_sum_sign, is_type_wanted, is_value_end};
+ghost use Rattle.raysim_explain.specs.Hints.{is_value_wanted, is_within, lacks_semicolon, name_hint, open_step, sign_hint, statement_hint};
+ghost use Rattle.raysim_explain.specs.Hints.{token_hint, word_step};
 
 use std::fmt;
 
@@ -41,8 +44,12 @@ pub enum Hint {
     Statement,
     /// A call alone as a statement.
     LoneCall,
-    /// `[]`
+    /// `[]` as a value.
     EmptyList,
+    /// `[]` where a type stands.
+    ListType,
+    /// An index without a number, `l[]`.
+    Index,
     /// A comma behind the last item.
     LastComma,
     /// A colon before a block or a variable's type.
@@ -53,6 +60,14 @@ pub enum Hint {
     Truth,
     /// A `;` that is missing, or a block without braces.
     Semicolon,
+    /// A statement's end where a round or square bracket is open.
+    Unclosed,
+    /// An argument with its parameter's name, `f(x: 1)`.
+    NamedArgument,
+    /// A word of the language where a name stands, as `let set = 3;`.
+    Reserved,
+    /// A function without `fn`, or a statement in none.
+    Function,
 }
 
 /// The byte at a place, and 0 where the text has none there.
@@ -189,38 +204,251 @@ fn statement_hint(behind: u8) -> Option<Hint>
     None
 }
 
-/// Of a token that the grammar does not allow there, with the bytes before and behind it that are no blanks.
-fn token_hint(token: &[u8], before: u8, behind: u8) -> Option<Hint>
-    ensures { result ≡ token_hint token.now before behind }
+/// Whether a word of a script may have that byte in it.
+fn is_in_word(byte: u8) -> bool
+    ensures { result ≡ is_in_word byte }
+{
+    is_letter(byte) || (byte > 47 && byte < 58) || byte == b'_'
+}
+
+/// How many bytes of a word the last word has behind one byte more: all, too, where blanks or a `[` follow it, and 99 in another word.
+fn word_step(word: &[u8], count: usize, byte: u8) -> usize
+    ensures { result ≡ word_step word.now count byte }
+{
+    if is_blank(byte) || byte == b'[' {
+        return if count == word.len() { count } else { 0 };
+    }
+    if !is_in_word(byte) {
+        return 0;
+    }
+    if count < word.len() && byte_at(word, count) == byte {
+        count + 1
+    } else {
+        99
+    }
+}
+
+/// Whether a text ends with exactly that word, and blanks or a `[` behind it.
+fn is_behind(text: &[u8], word: &[u8]) -> bool
+    ensures { result ≡ is_behind text.now word.now }
+{
+    let mut count = 0;
+    for byte in text {
+        count = word_step(word, count, *byte);
+    }
+    count == word.len()
+}
+
+/// How many brackets of a kind are open behind one byte more. None is behind a brace or a `;`.
+fn open_step(opens: u8, closes: u8, count: usize, byte: u8) -> usize
+    ensures { result ≡ open_step opens closes count byte }
+{
+    if byte == opens && count < 99 {
+        return count + 1;
+    }
+    if byte == closes && 0 < count {
+        return count - 1;
+    }
+    if is_statement_begun(byte) { 0 } else { count }
+}
+
+/// Whether brackets of a kind are open at a text's end.
+fn is_within(text: &[u8], opens: u8, closes: u8) -> bool
+    ensures { result ≡ is_within text.now opens closes }
+{
+    let mut count = 0;
+    for byte in text {
+        count = open_step(opens, closes, count, *byte);
+    }
+    0 < count
+}
+
+/// Twice the braces that are open behind one byte more, and one more in a comment, whose braces are none.
+fn brace_step(count: usize, byte: u8) -> usize
+    ensures { result ≡ brace_step count byte }
+{
+    if count % 2 == 1 {
+        return if byte == b'\n' { count - 1 } else { count };
+    }
+    match byte {
+        b'#' if count < 99 => count + 1,
+        b'{' if count < 99 => count + 2,
+        b'}' if 1 < count => count - 2,
+        _ => count,
+    }
+}
+
+/// Whether a text ends outside any function.
+fn is_outside(text: &[u8]) -> bool
+    ensures { result ≡ is_outside text.now }
+{
+    let mut count = 0;
+    for byte in text {
+        count = brace_step(count, *byte);
+    }
+    count < 2
+}
+
+/// What stands behind one byte more: a value's end (1), what a type follows (2), a `[` behind the one (3) or the other (4), or else (0).
+fn bracket_step(kind: u8, byte: u8) -> u8
+    ensures { result ≡ bracket_step kind byte }
+{
+    if is_blank(byte) {
+        return kind;
+    }
+    if byte == b'[' {
+        return if kind == 1 {
+            3
+        } else if kind == 2 || kind == 4 {
+            4
+        } else {
+            0
+        };
+    }
+    if is_value_end(byte) {
+        return 1;
+    }
+    if byte == b':' || byte == b'>' { 2 } else { 0 }
+}
+
+/// That of a whole text.
+fn bracket_kind(text: &[u8]) -> u8
+    ensures { result ≡ bracket_kind text.now }
+{
+    let mut kind = 0;
+    for byte in text {
+        kind = bracket_step(kind, *byte);
+    }
+    kind
+}
+
+/// Whether a value stands behind a text's last word.
+fn is_value_wanted(text: &[u8]) -> bool
+    ensures { result ≡ is_value_wanted text.now }
+{
+    if is_behind(text, b"return".as_slice()) || is_behind(text, b"print".as_slice()) {
+        return true;
+    }
+    if is_behind(text, b"get".as_slice()) || is_behind(text, b"put".as_slice()) {
+        return true;
+    }
+    is_behind(text, b"in".as_slice()) || is_behind(text, b"if".as_slice())
+}
+
+/// Whether a type stands behind a text's last word.
+fn is_type_wanted(text: &[u8]) -> bool
+    ensures { result ≡ is_type_wanted text.now }
+{
+    is_behind(text, b"empty".as_slice()) || is_behind(text, b"ref".as_slice())
+}
+
+/// Of a `]` right behind a `[`, with which the text before it ends.
+fn bracket_hint(front: &[u8]) -> Option<Hint>
+    ensures { result ≡ bracket_hint front.now }
+{
+    let kind = bracket_kind(front);
+    if kind == 4 || is_type_wanted(front) {
+        return Some(Hint::ListType);
+    }
+    if kind == 3 && !is_value_wanted(front) {
+        return Some(Hint::Index);
+    }
+    Some(Hint::EmptyList)
+}
+
+/// Of a `:`, with the text before it.
+fn colon_hint(front: &[u8]) -> Option<Hint>
+    ensures { result ≡ colon_hint front.now }
+{
+    if is_within(front, b'[', b']') {
+        return None;
+    }
+    if is_within(front, b'(', b')') {
+        return Some(Hint::NamedArgument);
+    }
+    Some(Hint::Colon)
+}
+
+/// Whether it is a word of the language.
+fn is_reserved(token: &[u8]) -> bool
+    ensures { result ≡ is_reserved token.now }
+{
+    if is_statement_word(token) || token == b"fn".as_slice() || token == b"else".as_slice() {
+        return true;
+    }
+    if token == b"in".as_slice() || token == b"int".as_slice() || token == b"ref".as_slice() {
+        return true;
+    }
+    if token == b"remote".as_slice() || token == b"put".as_slice() || token == b"get".as_slice() {
+        return true;
+    }
+    token == b"len".as_slice() || token == b"push".as_slice() || token == b"empty".as_slice()
+}
+
+/// Whether a name stands behind a text that ends with that byte.
+fn is_name_wanted(front: &[u8], before: u8) -> bool
+    ensures { result ≡ is_name_wanted front.now before }
+{
+    if before == b'(' || before == b',' {
+        return true;
+    }
+    if is_behind(front, b"fn".as_slice()) || is_behind(front, b"let".as_slice()) {
+        return true;
+    }
+    is_behind(front, b"set".as_slice()) || is_behind(front, b"for".as_slice())
+}
+
+/// Of a token at which a function or a statement was to begin, with the text before it and the byte behind it.
+fn begun_hint(token: &[u8], front: &[u8], behind: u8) -> Option<Hint>
+    ensures { result ≡ begun_hint token.now front.now behind }
+{
+    if !is_outside(front) {
+        return statement_hint(behind);
+    }
+    if is_letter(byte_at(token, 0)) && behind != 0 {
+        return Some(Hint::Function);
+    }
+    None
+}
+
+/// Of a token that the grammar does not allow there, with the text before it and the bytes before and behind it that are no blanks.
+fn token_hint(token: &[u8], front: &[u8], before: u8, behind: u8) -> Option<Hint>
+    ensures { result ≡ token_hint token.now front.now before behind }
 {
     if token == b"while".as_slice() {
         return Some(Hint::While);
     }
-    if token == b"if".as_slice() && before == b'e' {
+    if token == b"if".as_slice() && is_behind(front, b"else".as_slice()) {
         return Some(Hint::ElseIf);
     }
     if token == b"/".as_slice() && behind == b'/' {
         return Some(Hint::SlashComment);
     }
     if token == b":".as_slice() {
-        return Some(Hint::Colon);
+        return colon_hint(front);
     }
     if token == b"{".as_slice() && before == b')' {
         return Some(Hint::NoResult);
     }
     if token == b"]".as_slice() && before == b'[' {
-        return Some(Hint::EmptyList);
+        return bracket_hint(front);
     }
     if before == b',' && (token == b"]".as_slice() || token == b")".as_slice()) {
         return Some(Hint::LastComma);
     }
-    if is_statement_begun(before) {
-        return statement_hint(behind);
+    if is_reserved(token) && is_name_wanted(front, before) {
+        return Some(Hint::Reserved);
     }
-    if lacks_semicolon(token, before) {
-        return Some(Hint::Semicolon);
+    if before == 0 || is_statement_begun(before) {
+        return begun_hint(token, front, behind);
     }
-    None
+    if !lacks_semicolon(token, before) {
+        return None;
+    }
+    if is_within(front, b'[', b']') || is_within(front, b'(', b')') {
+        return Some(Hint::Unclosed);
+    }
+    Some(Hint::Semicolon)
 }
 
 /// Of a name that is not in scope.
@@ -245,6 +473,7 @@ impl Hint {
             2 => sign_hint(byte_at(text, start), byte_at(text, start + 1)),
             3 => token_hint(
                 &text[start..end],
+                &text[..start],
                 byte_before(&text[..start]),
                 byte_behind(&text[end..]),
             ),
@@ -280,6 +509,8 @@ impl Hint {
             }
             Hint::LoneCall => "a call alone is no statement: let unused = f();",
             Hint::EmptyList => "an empty list says of which type its items are: empty int",
+            Hint::ListType => "a list's type names that of its items: [int]",
+            Hint::Index => "an index stands between the brackets: l[0]",
             Hint::LastComma => "no comma stands behind the last one",
             Hint::Colon => {
                 "a block stands in { } and not behind a :, and a variable's type isn't written: let x = 1;"
@@ -291,6 +522,10 @@ impl Hint {
             Hint::Semicolon => {
                 "a statement ends with ;, and the block of an if or a for stands in { }"
             }
+            Hint::Unclosed => "a ( or a [ before it is not closed",
+            Hint::NamedArgument => "an argument has no name: f(1)",
+            Hint::Reserved => "this is a word of the language, and can't be a name",
+            Hint::Function => "a function begins with fn, and every statement stands in one",
         }
     }
 }

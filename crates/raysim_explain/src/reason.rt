@@ -227,7 +227,7 @@ impl RefusalCause {
                 "A notice of the death of a worker or node that lives or never was.",
             RefusalCause::NoNode => "The node that an event names does not live.",
             RefusalCause::Limit =>
-                "The event would make object 1,000,001, worker 1,025 or node 65. A run that meets it ends with no report.",
+                "The event would make object 1,000,001, worker 1,025 or node 65. A run that meets it ends with no report; a replay goes on behind it.",
             RefusalCause::Halted =>
                 "An earlier event found no memory (39), so no further event is taken.",
             RefusalCause::NoMemory =>

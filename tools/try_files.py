@@ -507,7 +507,7 @@ def try_limits(trial):
     trial.run(f"run bad.ray {on} --threads 2", 1, f"refused 37\n{possible}{remedy}")
     met = limit.replace("20586 (deliver 20584)", "100000 (deliver 20584, line 1)") + remedy
     limit = "limit: 100,000 events, those of settle lines counted\n"
-    remedy = "what to do: give each task more to do, so that there are fewer: each takes some ten events\n"
+    remedy = "what to do: leave out lines of which nothing comes, or give each task more to do: each takes some ten events\n"
     # (with a fault at each place the run is settled first, which goes on behind what is refused 37)
     trial.run(f"faults bad.ray {on} --most 1", 1, f"refused 41\n{limit}{met}{remedy}")
     FILES["bad.plan"] = b"tick 1\n" * 100001
@@ -596,7 +596,7 @@ def try_names(trial):
     for word in ["30", "NoWorker", "noworker"]:
         trial.run(f"explain {word}", 0, report=reason)
     limits = b"41 TooLong\nMore than 100,000 events would be applied. A run that meets it ends with no report.\nExample: a file of 100,001 lines join\n"
-    limits += b"Limits: 100,000 events, those of settle lines counted, or turns; 262,144 lines of a plan that say something; "
+    limits += b"Limits: 100,000 events, those of settle lines counted; 262,144 lines of a plan that say something; "
     limits += b"1,048,576 bytes of settle lines in all, their line feeds not counted\n"
     trial.run("explain 41", 0, report=limits)
     trap = b"DivZero, a trap\nA number was divided by 0.\nComes of: / or % by 0\nExample: 1 / 0\nWhat to do: test the divisor before\n"

@@ -30,7 +30,7 @@ PLAIN = (b"claim 1\ncommit 1\ndeliver 1\ndeliver 2\nsettle but 2 3\ntick 2\n# no
 RECORDED = b"raysim 2\n0 claim 1 1\n0 commit 1\n0 deliver 1\n8 deliver 2\n# none\n\n0 deliver 3\n3 claim 2 2\n0 tick 1\n0 notice 1 2\n0 lose 1 o1.1\n0 join\n"
 PLAN = b"0 tick 1\n1 notice 1 2\n# none\n\n2 lose 1 o1.1\n2 kill 2\n3 kill-node 2\n3 join\n"
 LIMIT = b"refused 41\nlimit: 100,000 events, those of settle lines counted\n"
-REMEDY = b"what to do: give each task more to do, so that there are fewer: each takes some ten events\n"
+REMEDY = b"what to do: leave out lines of which nothing comes, or give each task more to do: each takes some ten events\n"
 TOO_LONG = LIMIT + REMEDY
 # and where the file itself is longer than is kept
 SETTLES_TOO_LONG = (b"refused 41\nlimit: 1,048,576 bytes of settle lines in all, their line feeds not counted\n"

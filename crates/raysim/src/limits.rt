@@ -16,12 +16,15 @@ pub const SETTLED: &[u8] = b"settle\n";
 const FEWER_AT_ONCE: &str =
     "get some results before the next tasks are begun, or give each task more to do";
 
+const FEWER_EVENTS: &str =
+    "leave out lines of which nothing comes, or give each task more to do: each takes some ten events";
+
 /// Tells which limit a run met, in which event, and what to do.
 pub fn tell_limit<R: Eprint + AllocGlobal>(rt: &R, code: u16, known: &Known<'_, '_>) {
     match (code, known.course) {
         (37, Some(Course::Driven(_))) => tell_met(rt, known),
         (37, Some(_)) => tell_possible(rt),
-        (41, Some(course)) => tell_too_long(rt, course, known),
+        (41, Some(_)) => tell_too_long(rt, known),
         _ => {}
     }
 }
@@ -68,21 +71,11 @@ fn tell_possible<R: Eprint>(rt: &R) {
     let _ = eprintln!(rt; "limit: {POSSIBLE}\nwhat to do: {FEWER_AT_ONCE}");
 }
 
-/// Tells that there were too many turns or events, which was the last, and what to do.
-fn tell_too_long<R: Eprint + AllocGlobal>(rt: &R, course: Course, known: &Known<'_, '_>) {
-    let (limit, remedy) = match course {
-        Course::Driven(_) => (
-            "100,000 turns, and the run was not over behind them",
-            "give each task more to do, so that there are fewer; or run on threads (--threads), which take any number of turns",
-        ),
-        _ => (
-            "100,000 events, those of settle lines counted",
-            "give each task more to do, so that there are fewer: each takes some ten events",
-        ),
-    };
-    let _ = eprintln!(rt; "limit: {limit}");
+/// Tells that there were too many events, which was the last, and what to do.
+fn tell_too_long<R: Eprint + AllocGlobal>(rt: &R, known: &Known<'_, '_>) {
+    let _ = eprintln!(rt; "limit: 100,000 events, those of settle lines counted");
     tell_place(rt, known);
-    let _ = eprintln!(rt; "what to do: {remedy}");
+    let _ = eprintln!(rt; "what to do: {FEWER_EVENTS}");
 }
 
 /// Prints the report of a run that was stopped, up to there, where the refusal says that a limit stopped it.

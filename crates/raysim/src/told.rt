@@ -223,7 +223,7 @@ fn print_reason<R: Print>(rt: &R, reason: RefusalCause) -> io::Result<()> {
     match reason {
         RefusalCause::TooLong => {
             println!(rt;
-                "{reason}\nLimits: 100,000 events, those of settle lines counted, or turns; {MOST_OF_A_PLAN}; {MOST_OF_SETTLES}"
+                "{reason}\nLimits: 100,000 events, those of settle lines counted; {MOST_OF_A_PLAN}; {MOST_OF_SETTLES}"
             )
         }
         _ => println!(rt; "{reason}"),

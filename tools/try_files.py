@@ -175,7 +175,7 @@ SCRIPTS = [
     (3, "fn print(x: int) -> int { return x; }\n", "print", 5, ["expected: NAME", "found: print"]),
     (3, "fn main() -> int { let set = 3; return 1; }\n", "set", 3, ["expected: NAME", "found: set"]),
     (3, "fn main() -> int { let len = 3; return 1; }\n", "len", 3, ["expected: NAME", "found: len"]),
-    (3, "fn a() -> int { return 1; }\nmain() -> int { return a(); }\n", "main", 4, ["expected: fn", "found: main"]),
+    (3, "fn a() -> int { return 1; }\nmain() -> int { return a(); }\n", "main", 4, ["expected one of: fn the end of the text", "found: main"]),
     (3, "fn main() -> int { f(); return 1; }\n", "f();", 1, ["expected one of: let set if for print return }", "found: f"]),
     (3, "fn f(l: [int]) -> int { return l[]; }\n", "]; }", 1, [f"expected one of: {VALUES}", "found: ]"]),
     (3, "fn main() -> int { let l = []; return 1; }\n", "]; r", 1, [f"expected one of: {VALUES}", "found: ]"]),

@@ -83,12 +83,13 @@ def measure(cores):
     return ran.returncode, (time.monotonic() - begun) / 60, (used.ru_utime + used.ru_stime) / 60, seen
 
 
-def write_times(minutes, processor_minutes, cores, seen):
+def write_times(minutes, processor_minutes, cores, seen, is_whole):
     spent = {}
     for crate, part, seconds in seen.values():
         spent[crate, part] = spent.get((crate, part), 0) + seconds
     with open(TIMES, "w", encoding="utf-8") as file:
-        print(f"# {time.strftime('%Y-%m-%d', time.gmtime())}\t{cores}\t{minutes:.0f}\t{processor_minutes:.0f}", file=file)
+        whole = "whole" if is_whole else "a part of the"
+        print(f"# {time.strftime('%Y-%m-%d', time.gmtime())}\t{cores}\t{minutes:.0f}\t{processor_minutes:.0f}\t{whole}", file=file)
         for name in names_of_crates():
             parts = "\t".join(f"{spent.get((name, part), 0):.0f}" for part in PARTS)
             print(f"{name}\t{parts}\t{edits_of(name)}", file=file)
@@ -97,12 +98,12 @@ def write_times(minutes, processor_minutes, cores, seen):
 def table():
     with open(TIMES, encoding="utf-8") as file:
         head, *lines = file.read().splitlines()
-    date, cores, minutes, processor_minutes = head[2:].split("\t")
+    date, cores, minutes, processor_minutes, whole = head[2:].split("\t")
     rows = [line.split("\t") for line in lines]
     sums = [sum(int(row[i]) for row in rows) for i in range(1, 5)]
-    said = f"The whole gate on {date}, on {cores} processors: {minutes} minutes, {processor_minutes} processor minutes."
+    said = f"{'The whole' if whole == 'whole' else 'A part of the'} gate on {date}, on {cores} processors: {minutes} minutes, {processor_minutes} processor minutes."
     out = [said, "", "| Crate | Proof | With its tests | Edits | All of its edits |", "|---|---|---|---|---|"]
-    out += [f"| `{name}` | {proof} | {tests if tests != '0' else '-'} | {count} | {edits if count != '0' else '-'} |"
+    out += [f"| `{name}` | {proof} | {tests if tests != '0' else '-'} | {count} | {edits if edits != '0' else '-'} |"
             for name, proof, tests, edits, count in rows]
     out.append(f"| all of these | {sums[0]} | {sums[1]} | {sums[3]} | {sums[2]} |")
     return out
@@ -122,7 +123,7 @@ def main(words):
             sys.exit(__doc__)
         cores = int(words[1]) if words else None
         status, minutes, processor_minutes, seen = measure(cores)
-        write_times(minutes, processor_minutes, cores or len(os.sched_getaffinity(0)), seen)
+        write_times(minutes, processor_minutes, cores or len(os.sched_getaffinity(0)), seen, status == 0)
         if status:
             sys.exit(f"the gate failed with status {status}: docs/gate_times.tsv holds what was seen")
     write_table()

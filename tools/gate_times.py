@@ -101,7 +101,11 @@ def table():
     date, cores, minutes, processor_minutes, whole = head[2:].split("\t")
     rows = [line.split("\t") for line in lines]
     sums = [sum(int(row[i]) for row in rows) for i in range(1, 5)]
-    said = f"{'The whole' if whole == 'whole' else 'A part of the'} gate on {date}, on {cores} processors: {minutes} minutes, {processor_minutes} processor minutes."
+    if whole == "in parts":
+        # (put together by hand, from runs of `rt ci NAME..` side by side)
+        said = f"The gate on {date}, on {cores} processors, part by part beside other work: {processor_minutes} processor minutes, {minutes}."
+    else:
+        said = f"{'The whole' if whole == 'whole' else 'A part of the'} gate on {date}, on {cores} processors: {minutes} minutes, {processor_minutes} processor minutes."
     out = [said, "", "| Crate | Proof | With its tests | Edits | All of its edits |", "|---|---|---|---|---|"]
     out += [f"| `{name}` | {proof} | {tests if tests != '0' else '-'} | {count} | {edits if edits != '0' else '-'} |"
             for name, proof, tests, edits, count in rows]

@@ -34,7 +34,7 @@ LIST = [
     ("frames/src/jumping.rt", "State::skip", REFUSED, "code has no place past 2^64 - 1: the clause `refused`"),
     ("frames/src/halt.rt", "refused_growth", ROOM, "is the growth that is refused, for the three above"),
     ("lease/src/said.rt", "next_number", REFUSED, "there is no worker behind 2^32 - 1: the clause `refused`"),
-    ("log_words/src/tasks.rt", "object_behind", REFUSED, "there is no serial past 2^64 - 1, and a birth of a legal log has none there"),
+    ("made_objects/src/made.rt", "object_behind", REFUSED, "there is no serial past 2^64 - 1, and a birth of a legal log has none there"),
     ("owner_steps/src/again.rt", "next_ask", REFUSED, "there is no ask behind 2^32 - 1: the clause `refused`"),
     ("owner_steps/src/results.rt", "id_behind", REFUSED, "there is no serial past 2^64 - 1, and an owner has 2^63 objects at most"),
     ("sequence/src/lib.rt", "refused_growth", ROOM, "is the growth that is refused, for the crates above"),
@@ -56,6 +56,7 @@ LIST = [
     ("seats/src/outs.rt", "keep_or_give_up", UNIT, "there was no memory to keep that a job is out"),
     ("seats/src/turning.rt", "Turning::give_up", UNIT, "is called where a turn found no memory for its choice, or a job none to run in"),
     ("seats/src/turning.rt", "Turning::into_end", UNIT, "a run is given up for 37, or for 38 or 39, which come of want of memory"),
+    ("worked_runs/src/checks/readers.rt", "a_failed_read_is_no_script", UNIT, "is a refusal whose text is compared, and ends nothing by it"),
 ]
 
 # what says nothing: comments, strings, characters

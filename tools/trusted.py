@@ -60,8 +60,8 @@ CHAPTERS = [
     ("How prints and ends are written", {
         "report/ValueTexts": "The texts of integers, lists and references.",
         "report/MainLines": "The lines of prints and of main's end.",
-        "report_text/Texts": "The texts of faults.",
-        "report_text/Main": "The lines `main open` and `main fault`, and the status of an end.",
+        "report_lines/Texts": "The texts of faults.",
+        "report_lines/Main": "The lines `main open` and `main fault`, and the status of an end.",
     }),
     ("What a log says, where a fault has its cause", {
         "values/Listed": "The ids that stand in a value.",
@@ -90,7 +90,7 @@ CHAPTERS = [
 ROOTS = [
     ("What the commands promise in addition", ["script_commands", "run_commands", "raysim_commands", "raysim_streams", "raysim_options", "raysim_files"]),
     ("What a run and its parts promise in addition",
-     ["protocol_board", "protocol_core", "seats", "report_text", "segment", "evaluation", "script_check", "script_syntax", "script_tokens",
+     ["protocol_board", "protocol_core", "seats", "report_lines", "report_text", "segment", "evaluation", "script_check", "script_syntax", "script_tokens",
       "event_files", "report_json", "log_text", "message_text", "why_text", "waits", "main_text", "lineage_text", "timeline", "page_text", "engine_text", "lineage",
       "lease", "object_store", "borrow"]),
     ("What the laws say in addition", ["meaning", "script_laws", "event_log", "meaning_laws", "kind_laws", "report_laws", "protocol_laws", "owed_laws"]),

@@ -1,6 +1,7 @@
 #!/usr/bin/env python3
-"""Tries what the program raysim does with files, and what it tells below a refusal: tools/try_files.py PROGRAM. Each case runs it in a fresh folder, and
-compares what it writes, its status and the files that are there afterwards. The last line counts them; the status is 1 where one differs."""
+"""Tries what the program raysim does with files, how it takes the words of its command line, and what it tells below a refusal: tools/try_files.py PROGRAM.
+Each case runs it in a fresh folder, and compares what it writes, its status and the files that are there afterwards. The last line counts them; the status is
+1 where one differs."""
 import hashlib
 import json
 import os
@@ -15,6 +16,9 @@ import tempfile
 
 SCRIPT = b"fn sq(x: int) -> int { return x * x; }\nfn main() -> int { let r = remote sq(7); print get r; return 0; }\n"
 REPORT = b"print 49\nmain value 0\nattempt a1.1#0 w2 accepted\nreleased o1.1\n"
+# The events of its run on one thread, as its history has them.
+EVENTS_OF_RUN = "claim 1 1,commit 1,deliver 1,deliver 2,deliver 3,claim 2 2,commit 2,deliver 4,deliver 5,deliver 6,claim 1 3,commit 3".split(",")
+HISTORY = "".join(f"1 {it}\n" for it in EVENTS_OF_RUN).encode()
 NOTHING = "nothing was run or written\n"
 NOBODY = 65534
 # a run takes a hundredth of this
@@ -313,8 +317,9 @@ class Trial:
         said = ran.stderr.decode()
         if said != told and not (isinstance(told, re.Pattern) and told.fullmatch(said)):
             why.append(f"told {said!r}, not {told!r}")
-        if ran.stdout is not None and ran.stdout != report:
-            why.append(f"wrote {ran.stdout!r}, not {report!r}")
+        wrote = ran.stdout
+        if wrote is not None and wrote != report and not (isinstance(report, re.Pattern) and report.fullmatch(wrote)):
+            why.append(f"wrote {wrote!r}, not {report!r}")
         for name in sorted({*before, *after}):
             if name in (changed or {}):
                 if name not in after or not changed[name](after[name][1]):
@@ -356,15 +361,15 @@ def is_graph(bytes_):
     return bytes_.startswith(b"strict digraph") and bytes_.rstrip().endswith(b"}")
 
 
-def is_page(bytes_):
-    """A page whose JSON has the script, and the log, the report and the state at the end of its run by the settle rule."""
+def is_page(bytes_, nodes=1):
+    """A page whose JSON has the script, and the log, the report and the state at the end of its run by the settle rule, on so many nodes."""
     head, run, tail = re.fullmatch(rb"(.*<script id=\"run\" type=\"application/json\">)([^<]*)(</script>.*)", bytes_, re.S).groups()
     run = json.loads(run)
     return (
         head.startswith(b"<!DOCTYPE html>")
         and tail.endswith(b"</html>\n")
         and sorted(run) == ["cluster", "log", "report", "script", "state"]
-        and run["cluster"] == {"nodes": 1, "slots": 4}
+        and run["cluster"] == {"nodes": nodes, "slots": 4}
         and run["script"].encode() == SCRIPT
         and run["report"].encode() == REPORT
         and "    w1 sends message 1 to n1: Ask(a1.1#0, 0)\n" in run["log"]
@@ -482,6 +487,10 @@ def try_explanations(trial):
         told += "".join(f"    {it}\n" for it in [WORDS[code], *lines])
         trial.run("check bad.ray --explain", 1, told)
         trial.run("sim bad.ray settle.ev --explain", 1, told)
+    # (a tab is shown as a space, so that the caret stands below its place)
+    FILES["bad.ray"] = b"fn main() -> int {\n\treturn y;\n}\n"
+    tabbed = "refused 10 at 27..28\nbad.ray:2:9\n     return y;\n            ^\n    name: y\n" + f"    {WORDS[10]}\n"
+    trial.run("check bad.ray --explain", 1, tabbed)
     for command, text, number, why in LISTS:
         kind = "the plan" if command == "run" else "the list of events"
         FILES["bad.plan"] = text.encode()
@@ -545,10 +554,8 @@ def head_of(cluster, threads, script):
 
 def try_heads(trial):
     """Of which run a history is, and what is told where that isn't the one that it is replayed on."""
-    events = "claim 1 1,commit 1,deliver 1,deliver 2,deliver 3,claim 2 2,commit 2,deliver 4,deliver 5,deliver 6,claim 1 3,commit 3".split(",")
-    events = "".join(f"1 {it}\n" for it in events)
     usual, other = "--nodes 1 --slots 4", "--nodes 2 --slots 3"
-    whole = ("raysim 2\n" + head_of(usual, 1, SCRIPT) + events).encode()
+    whole = ("raysim 2\n" + head_of(usual, 1, SCRIPT)).encode() + HISTORY
     trial.run("run sq.ray --threads 1 --history new", 0, report=REPORT, changed={"new": lambda it: it == whole})
     wide = ("raysim 2\n" + head_of(other, 8, SCRIPT)).encode()
     trial.run(f"run sq.ray --threads 8 {other} --history new", 0, report=REPORT, changed={"new": lambda it: it.startswith(wide)})
@@ -575,6 +582,168 @@ def try_heads(trial):
     trial.same("faults sq.ray wide.ev --most 2", "faults sq.ray bare.ev --most 2", cluster.format("wide.ev", other, usual))
 
 
+# The run of that script by the settle rule, in the forms that docs/reading-a-log.md, docs/state.md and docs/commands.md have.
+JSON = b'{"attempts":[{"attempt":"a1.1#0","state":"accepted","worker":2}],"main":{"end":"value","value":0},"prints":[49],"refused":[],'
+JSON += b'"released":["o1.1"],"resolved":[]}\n'
+LOG = b"""n1 opens w1
+w1 begins a1.0#0: main()
+1. claim 1: w1 takes job 1
+2. commit 1: w1 has done job 1
+    a1.0#0 (main) makes o1.1: remote(3) sq(7)
+3. deliver 1: message 1 arrives
+    n1 opens w2
+4. deliver 2: message 2 arrives
+    w2 begins a1.1#0: sq(7)
+5. deliver 3: message 3 arrives
+6. claim 2: w2 takes job 2
+7. commit 2: w2 has done job 2
+    a1.1#0 (sq) ends with 49
+8. deliver 4: message 4 arrives
+    w1 accepts a1.1#0 (sq)
+    a1.0#0 (main) gets o1.1: 49
+9. deliver 5: message 5 arrives
+10. deliver 6: message 6 arrives
+11. claim 1: w1 takes job 3
+12. commit 3: w1 has done job 3
+    main prints 49
+    a1.0#0 (main) ends with 0
+    w1 releases o1.1
+"""
+WHY = b"""a1.0#0 (main) made o1.1 in event 2 (commit 1, line 1): remote(3) sq(7).
+a1.1#0 (sq) began on w2 in event 4 (deliver 2, line 1).
+a1.1#0 (sq) ended in event 7 (commit 2, line 1): 49.
+w1 accepted a1.1#0 (sq) in event 8 (deliver 4, line 1), and keeps the result itself: no node can lose it.
+a1.0#0 (main) got o1.1 in event 8 (deliver 4, line 1): 49.
+w1 released o1.1 in event 12 (commit 3, line 1): nothing needed it any more.
+"""
+STATE = b"""after event 12 of 12
+n1: alive, 0 of 4 slots taken
+n1: workers w1 w2
+n2: alive, 0 of 4 slots taken
+n2: workers
+w1: alive, on n1, driver
+w1: a1.0#0 (main) ended
+w2: alive, on n1, idle
+w2: a1.1#0 (sq) ended
+o1.1: made by sq, owner w1, released
+o1.1: 0 of 3 retries used
+"""
+SUMMARY = b"""summary
+function main: 1 tasks, 1 attempts, 0 for deaths, 0 for losses, 1 results, 0 faults, 0 given up
+function sq: 1 tasks, 1 attempts, 0 for deaths, 0 for losses, 1 results, 0 faults, 0 given up
+message Ask: 1 sent, 1 delivered
+message Give: 1 sent, 1 delivered
+message Back: 1 sent, 1 delivered
+message Push: 1 sent, 1 delivered
+message Finished: 1 sent, 1 delivered
+message FinishedAck: 1 sent, 1 delivered
+event claim: 3 came, 0 refused
+event commit: 3 came, 0 refused
+event deliver: 6 came, 0 refused
+opened: 2 workers on 1 nodes
+"""
+
+# A put of a list that is cut where it isn't asked for whole, and of whose release its node is told.
+LONG = b"fn main() -> int { let l = put [1, 2, 3, 4, 5, 6, 7, 8, 9]; return 0; }\n"
+LONG_LOG = b"n1 opens w1\nw1 begins a1.0#0: main()\n1. claim 1: w1 takes job 1\n2. commit 1: w1 has done job 1\n    a1.0#0 (main) makes o1.1: put "
+LONG_LOG += b"%s\n    a1.0#0 (main) ends with 0\n    w1 releases o1.1\n3. deliver 1: message 1 arrives\n"
+LONG_WHY = b"a1.0#0 (main) made o1.1 in event 2 (commit 1, line 1): put %s.\n"
+LONG_WHY += b"w1 released o1.1 in event 2 (commit 1, line 1): nothing needed it any more.\n"
+CUT, WHOLE = b"[1, 2, 3, .. 6 items]", b"[1, 2, 3, 4, 5, 6, 7, 8, 9]"
+
+# Words that are at fault, and the first lines that are told of them.
+WORDS_AT_FAULT = [
+    ("run sq.ray --threads 0", "invalid value '0' for '--threads <N>': 0 is not in 1..=8"),
+    ("run sq.ray --threads 9", "invalid value '9' for '--threads <N>': 9 is not in 1..=8"),
+    ("sim sq.ray settle.ev --nodes 0", "invalid value '0' for '--nodes <N>': 0 is not in 1..=64"),
+    ("sim sq.ray settle.ev --nodes 65", "invalid value '65' for '--nodes <N>': 65 is not in 1..=64"),
+    ("sim sq.ray settle.ev --slots 65", "invalid value '65' for '--slots <N>': 65 is not in 1..=64"),
+    ("sim sq.ray settle.ev --books --json", "the argument '--books' cannot be used with '--json'"),
+    ("run sq.ray --summary --json", "the argument '--summary' cannot be used with '--json'"),
+    ("sim sq.ray settle.ev --summary --books", "the argument '--summary' cannot be used with '--books'"),
+    ("migrate sq.ray", "the following required arguments were not provided:\n  <events>"),
+    ("state sq.ray", "the following required arguments were not provided:\n  <events>"),
+    ("explain", "the following required arguments were not provided:\n  <what>"),
+    ("fly sq.ray", "unrecognized subcommand 'fly'"),
+    ("", "'raysim' requires a subcommand but one was not provided"),
+]
+
+
+def table(lists, ends, *more):
+    """The table of `faults`: how many lists there are, in how many main ended in which way, and the lines behind that."""
+    names = ["as serial", "fault OwnerDied", "fault PutLost", "fault RetriesUsed", "open", "main killed", "stopped"]
+    return "".join(f"{it}\n" for it in [f"lists {lists}", *(f"{name} {ends.get(name, 0)}" for name in names), *more]).encode()
+
+
+def try_words(trial):
+    """How the words of the command line are taken: what each asks for, what is left out, and words at fault."""
+    for words, line in WORDS_AT_FAULT:
+        trial.run(words, 1, re.compile(re.escape(f"error: {line}\n") + ".*", re.S))
+    usual = "--nodes 1 --slots 4"
+    FILES["of_1_4.ev"] = ("raysim 2\n" + head_of(usual, 1, SCRIPT)).encode() + HISTORY
+    FILES["tick.plan"] = b"0 tick 7\n"
+    FILES["long.ray"] = LONG
+    # (on one node with four slots, which the head of its history says; a worker that isn't there is refused 30)
+    ticked = REPORT + b"refused 30 tick 7\n"
+    head = ("raysim 2\n" + head_of(usual, 8, SCRIPT)).encode()
+    trial.run("run sq.ray --threads 8 --plan=tick.plan", 0, report=ticked)
+    on_threads = {"new": lambda it: it.startswith(head) and b" tick 7\n" in it}
+    trial.run("run sq.ray --threads 8 --plan=tick.plan --history new", 0, report=ticked, changed=on_threads)
+    noted = "note: of_1_4.ev was recorded with --nodes 1 --slots 4, not with {}\n"
+    trial.run("sim sq.ray of_1_4.ev --nodes 64 --slots=1 --json", 0, noted.format("--nodes 64 --slots 1"), JSON)
+    trial.run("sim sq.ray of_1_4.ev", 0, report=REPORT)
+    trial.run("sim sq.ray settle.ev --books", 0, report=REPORT + b"book 0 3 6\n")
+    trial.run("run sq.ray --json", 0, report=JSON)
+    trial.run("run sq.ray --summary", 0, report=REPORT + SUMMARY)
+    trial.run("log sq.ray", 0, report=LOG)
+    trial.run("log long.ray", 0, report=LONG_LOG % CUT)
+    trial.run("log long.ray --full", 0, report=LONG_LOG % WHOLE)
+    trial.run("why long.ray settle.ev o1.1", 0, report=LONG_WHY % CUT)
+    trial.run("why long.ray settle.ev o1.1 --full", 0, report=LONG_WHY % WHOLE)
+    trial.run("log sq.ray --nodes 2 --page=p", 0, report=LOG, changed={"p": lambda it: is_page(it, 2)})
+    seated = re.sub(rb"(?m)^(\d.*)$", rb"\1 (seat 1)", LOG)
+    trial.run("log sq.ray of_1_4.ev --nodes 2", 0, noted.format("--nodes 2 --slots 4"), seated)
+    trial.run("why sq.ray", 0, report=b"Main ended in event 12 (commit 3): 0.\n")
+    trial.run("why sq.ray settle.ev", 0, report=b"Main ended in event 12 (commit 3, line 1): 0.\n")
+    trial.run("why sq.ray settle.ev o1.1", 0, report=WHY)
+    trial.same("why sq.ray of_1_4.ev o1.1 --nodes 3", "why sq.ray of_1_4.ev o1.1", noted.format("--nodes 3 --slots 4"))
+    trial.run("state sq.ray settle.ev --at 12 --nodes 2", 0, report=STATE)
+    three = {"t": is_json, "l": is_graph, "p": is_page}
+    trial.run("sim sq.ray settle.ev --timeline t --lineage=l --page p", 0, report=REPORT, changed=three)
+    try_faults_words(trial, noted)
+    try_migrations(trial)
+    told = explained(10, FILES["bad.ray"].decode(), "y", 1) + f"    {WORDS[10]}\n"
+    for command in ["check", "serial", "sim", "log", "why", "migrate", "faults"]:
+        words = [command, "bad.ray", *(["settle.ev"] if command in ("sim", "why", "migrate") else [])]
+        trial.run(words, 1, "refused 10 at 26..27\n")
+        trial.run([*words, "--explain"], 1, told)
+        trial.run([command, "--explain", *words[1:]], 1, told)
+
+
+def try_faults_words(trial, noted):
+    """Which faults are tried. The run has 12 events, so 13 places; o1.1 is born in the second and w2 opened in the third."""
+    # a loss and an eviction at each of 3 nodes, at the 11 places behind its birth: its owner keeps the result itself, so none can be lost
+    told = table(66, {"as serial": 66}, "attempts 1 without a fault, 1 at most, 66 in all")
+    trial.run("faults sq.ray --of lose,evict --nodes 3", 0, report=told)
+    trial.run("faults sq.ray of_1_4.ev --of lose,evict --nodes 3", 0, noted.format("--nodes 3 --slots 4"), told)
+    # deaths of w1 at 13 places and of w2 at 10, each with a notice too, of n1 at 13, and losses at 11: 70 lists, of which the first 9 are
+    # a death of w1, the same with a notice, and one of n1, before the first event, behind it and behind the second
+    behind = ["attempts 1 without a fault, 0 at most, 0 in all", "kill 1 before event 1: main killed"]
+    told = table("9 of 70", {"main killed": 9}, *behind)
+    trial.run("faults sq.ray settle.ev --most 9 --out found", 0, report=told, changed={"found": lambda it: it == ("main_killed.ev",)})
+
+
+def try_migrations(trial):
+    """Which slots a migration has: of three tasks all are begun on four slots, and two of them on two, while the third waits in the queue."""
+    FILES["three.ray"] = b"fn f() -> int { return 1; }\n"
+    FILES["three.ray"] += b"fn main() -> int { let a = remote f(); let b = remote f(); let c = remote f(); return get a + get b + get c; }\n"
+    FILES["idle.ev"] = b"settle but 2 3 4\n"
+    # (an Ask, a Give and a Push for each that is begun, an Ask and a Wait for the one that isn't)
+    for words, messages in [("migrate three.ray idle.ev", 9), ("migrate three.ray idle.ev --slots 2", 8)]:
+        events = ["claim 1 1", "commit 1", *(f"deliver {it + 1}" for it in range(messages))]
+        trial.run(words, 0, report=("raysim 2\n" + "".join(f"0 {it}\n" for it in events)).encode())
+
+
 def try_life(trial):
     """What is told while a run goes on: the last line of those that are rewritten, and what main prints."""
     line = r"(\r\d+ events, [01] of [01] tasks done, \d+ s)*"
@@ -584,6 +753,10 @@ def try_life(trial):
     trial.run("run sq.ray --stream", 0, "print 49\n", REPORT)
     trial.run("run sq.ray --stream --threads 1", 0, "print 49\n", REPORT)
     trial.run("run sq.ray --stream --json", 0, "print 49\n", trial.written("run sq.ray --json"))
+    both = re.compile(line + r"\n?print 49\n" + line + last)
+    trial.run("run sq.ray --progress --stream", 0, both, REPORT)
+    # (neither asks for threads, on which nothing is told so far)
+    trial.run("run sq.ray --progress --stream --so-far", 0, both, REPORT)
     trial.run("run bad.ray --progress --stream", 1, "refused 10 at 26..27\n")
     tried = re.compile(r"(\r\d of 3 lists tried, \d+ s)*\r3 of 3 lists tried, \d+ s\n")
     trial.run("faults sq.ray --most 3 --progress", 0, tried, trial.written("faults sq.ray --most 3"))
@@ -595,13 +768,22 @@ def try_names(trial):
     reason += b"Example: claim 7 in a run with two workers\n"
     for word in ["30", "NoWorker", "noworker"]:
         trial.run(f"explain {word}", 0, report=reason)
-    limits = b"41 TooLong\nMore than 100,000 events would be applied. A run that meets it ends with no report.\nExample: a file of 100,001 lines join\n"
+    limits = b"41 TooLong\nMore than 100,000 events would be applied. A replay that meets it ends with no report.\nExample: a file of 100,001 lines join\n"
     limits += b"Limits: 100,000 events, those of settle lines counted; 262,144 lines of a plan that say something; "
     limits += b"1,048,576 bytes of settle lines in all, their line feeds not counted\n"
     trial.run("explain 41", 0, report=limits)
     trap = b"DivZero, a trap\nA number was divided by 0.\nComes of: / or % by 0\nExample: 1 / 0\nWhat to do: test the divisor before\n"
     trial.run("explain divzero", 0, report=trap)
     trial.run("explain OwnerDie", 1, "OwnerDie is the name of no refusal, fault or trap; near are: OwnerDied\n")
+    trial.run("explain NoWorkers", 1, "NoWorkers is the name of no refusal, fault or trap; near are: NoWorker\n")
+    trial.run("explain Owner", 1, "Owner is the name of no refusal, fault or trap\n")
+    trial.run("explain x", 1, "x is the name of no refusal, fault or trap\n")
+    for word in ["OwnerDied", "ownerDied"]:
+        trial.run(f"explain {word}", 0, report=re.compile(rb"OwnerDied, a fault\n.+", re.S))
+    retries = b"16 BadRetries\nA remote call asks for more than 10 retries. The place is the number.\nExample: let r = remote(11) f();\n"
+    trial.run("explain 16", 0, report=retries)
+    limit = b"37 Limit\nThe event would make object 1,000,001, worker 1,025 or node 65. A run that meets it ends with no report; a replay goes on "
+    trial.run("explain 37", 0, report=limit + b"behind it.\nExample: 1,100 remote calls that are all open\n")
     trial.run("explain nothing_like_it", 1, "nothing_like_it is the name of no refusal, fault or trap\n")
     trial.run("explain 5", 1, "nothing is refused 5\n")
 
@@ -633,7 +815,8 @@ def main():
         why = unable(trial)
         if why:
             sys.exit(f"try_files: nothing was tried. {why}")
-        parts = [try_refusals, try_writes, try_failures, try_standard_output, try_heads, try_life, try_explanations, try_limits, try_endpoints, try_names]
+        parts = [try_refusals, try_writes, try_failures, try_standard_output, try_heads, try_words, try_life]
+        parts += [try_explanations, try_limits, try_endpoints, try_names]
         for part in parts:
             part(trial)
         print(f"{trial.passed} passed, {trial.failed} failed")

@@ -6,7 +6,7 @@ so once more with that growth and all behind it refused. Each run must end as th
 `refused 39`, status 1 and nothing written. An older file is whole, as it was or as it is to be. The last line counts the runs and those that differ; the
 status is 1 where one does.
 
-Tried are the rows of crates/worked_faults/data/rows.faults by `sim`, and three of them by `run`, `why`, `log`, with pictures and with a history. With --gate
+Tried are the rows of crates/worked_runs/data/rows.faults by `sim`, and three of them by `run`, `why`, `log`, with pictures and with a history. With --gate
 it is six cases of crates/worked_runs/data, whose reports were worked out by hand: where nothing is refused, the run writes that report.
 
 Memory is refused by a library that is loaded before the C library and counts the calls that ask it for memory. It is compiled by the toolchain's own
@@ -20,8 +20,8 @@ import tempfile
 from concurrent.futures import ThreadPoolExecutor
 
 TOP = os.path.dirname(os.path.dirname(os.path.abspath(__file__)))
-ROWS = f"{TOP}/crates/worked_faults/data/rows.faults"
 CASES = f"{TOP}/crates/worked_runs/data"
+ROWS = f"{CASES}/rows.faults"
 REFUSED = b"refused 39\n"
 # behind so many refusals a run would have asked for memory without end
 MOST = 20_000

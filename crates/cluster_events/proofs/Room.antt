@@ -15,12 +15,12 @@ use Rattle.protocol.specs.Tables.{Worker}
 use Rattle.protocol.specs.Cluster.{ClusterState, here, node_at, worker_at, worker_does, worker_does_at, worker_does_by}
 use Rattle.worker_acts.specs.Acts.{act_step}
 use Rattle.worker_acts.specs.declared.part.Act.{Act}
-use Rattle.worker_acts.specs.declared.part.Act.TheVariants.{Claim, Commit, Hear, LearnNodeDied, LearnWorkerDied, Tick}
+use Rattle.worker_acts.specs.declared.part.Act.TheVariants.{Claim, Commit, Receive, LearnNodeDied, LearnWorkerDied, Tick}
 
 act_opens : (a : Act) (h : WorkerContext) → (act_step a h).there.opened ≤ h.there.opened + 1
 act_opens (Claim j) h = claim_opens h j
 act_opens (Commit d) h = commit_opens h d
-act_opens (Hear sender m) h = reached_opens h sender m
+act_opens (Receive sender m) h = reached_opens h sender m
 act_opens Tick h = tick_opens h
 act_opens (LearnWorkerDied v) h = notice_opens h v
 act_opens (LearnNodeDied n) h = notice_node_opens h n

@@ -1,4 +1,5 @@
-// Workers that do their part in an event.
+// Workers that do their part in an event. Where a worker, a node or both are let go of, a call of `drop` does it: what ends with its scope is let go
+// of field by field on each way out, and to prove that takes minutes.
 
 ghost use Rattle.std.specs.Prelude.{◌≡◌, ◌<◌, ◌+◌, IfOk, OnOk, Some, length, slice_get, slice_set};
 ghost use Rattle.step_laws.specs.Limits.{entries_within, whole_within};
@@ -35,8 +36,13 @@ pub fn act(
     };
     let mut here = blank_here(alloc, whole, number, node);
     exchange(whole, place, node_place, &mut here);
-    take_part(alloc, &mut here, what)?;
-    put_worker(alloc, whole, place, node_place, number, node, here)
+    match take_part(alloc, &mut here, what) {
+        Ok(()) => put_worker(alloc, whole, place, node_place, number, node, here),
+        Err(error) => {
+            drop(here);
+            Err(error)
+        }
+    }
 }
 
 /// A worker and its node as they were.
@@ -60,8 +66,13 @@ fn keep(
     ensures { IfOk result (λ kept. IsKept kept whole.now place node_place) }
 {
     let worker = whole.workers.get(place).copy(alloc)?;
-    let node = whole.nodes.get(node_place).copy(alloc)?;
-    Ok(Kept { worker, node })
+    match whole.nodes.get(node_place).copy(alloc) {
+        Ok(node) => Ok(Kept { worker, node }),
+        Err(error) => {
+            drop(worker);
+            Err(error)
+        }
+    }
 }
 
 /// What was kept stands in its place again.
@@ -94,9 +105,11 @@ fn put_within(
     ensures entries { IfOk result (λ given. given ≡ entries_within made (after_worker whole.old number node here)) }
 {
     if fits(whole, u64::from(here.there.opened), made) {
+        drop(kept);
         let entries = put_worker(alloc, whole, place, node_place, number, node, here)?;
         return Ok(Some(entries));
     }
+    drop(here);
     put_again(whole, place, node_place, kept);
     Ok(None)
 }
@@ -122,8 +135,14 @@ pub fn act_or_restore(
     };
     let kept = keep(alloc, whole, place, node_place)?;
     let mut here = take_worker(alloc, whole, place, node_place, number, node);
-    take_part(alloc, &mut here, what)?;
-    put_within(
-        alloc, whole, place, node_place, number, node, here, kept, made,
-    )
+    match take_part(alloc, &mut here, what) {
+        Ok(()) => put_within(
+            alloc, whole, place, node_place, number, node, here, kept, made,
+        ),
+        Err(error) => {
+            drop(here);
+            drop(kept);
+            Err(error)
+        }
+    }
 }

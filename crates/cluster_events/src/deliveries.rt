@@ -59,7 +59,7 @@ fn hand_over(
             if !is_live_worker(whole, worker) {
                 return Ok(nothing(alloc, whole, made));
             }
-            let_act(alloc, whole, worker, &Act::Hear(sender, message), made)
+            let_act(alloc, whole, worker, &Act::Receive(sender, message), made)
         }
         Endpoint::TheNode(node) => {
             if !is_live_node(whole, node) {

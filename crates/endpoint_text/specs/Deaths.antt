@@ -5,7 +5,7 @@ use Rattle.std.specs.Fmt.{decimal}
 use Rattle.meaning.specs.Births.{Bearing}
 use Rattle.event_log.specs.Entries.{Attempt, Entry, Begun}
 use Rattle.event_log.specs.Words.{births}
-use Rattle.report_text.specs.Main.{first}
+use Rattle.report_text.specs.of_report_lines.Main.{first}
 use Rattle.log_text.specs.Attempts.{named_text}
 use Rattle.protocol_data.specs.declared.message.Message.{Message}
 use Rattle.protocol_data.specs.declared.message.Message.TheVariants.{Give}

@@ -7,7 +7,7 @@ use Rattle.event_log.specs.Entries.{Entry, In, Opened, Begun, Born, Ended, Accep
 use Rattle.event_log.specs.Events.{from_one}
 use Rattle.event_log.specs.Words.{births, opened}
 use Rattle.log_words.specs.declared.contents.Contents.{Contents}
-use Rattle.log_words.specs.Tasks.{objects_made}
+use Rattle.log_words.specs.of_made_objects.Made.{objects_made}
 use Rattle.protocol_data.specs.declared.message.Envelope.{Envelope}
 use Rattle.main_text.specs.Links.{worker_text}
 use Rattle.why_text.specs.Entries.{accepted_text, began_text, ended_text, faulted_text, given_up_text}

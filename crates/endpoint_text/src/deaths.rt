@@ -3,7 +3,7 @@
 ghost use Rattle.std.specs.Prelude.{◌≡◌, ◌++◌, IfOk, OnOk, string_bytes};
 ghost use Rattle.std.specs.List.{flat_map};
 ghost use Rattle.event_log.specs.Words.{births};
-ghost use Rattle.report_text.specs.Main.{first};
+ghost use Rattle.report_text.specs.of_report_lines.Main.{first};
 ghost use Rattle.log_words.specs.Index.{IsIndexOf};
 ghost use Rattle.why_text.specs.Moments.{moment_of};
 ghost use Rattle.endpoint_text.specs.Deaths.{broke_if, broke_text, broken_text, death_text, death_with_text, first_given, for_note};

@@ -2,7 +2,7 @@
 use Rattle.std.proofs.Common.{◌≡◌, ℕ, suc, ◌+◌, List, [], ◌∷◌, ◌++◌, refl, sym, ap, ◌∙◌, append-nil, append_assoc, arith}
 use Rattle.meaning.specs.Values.{Id}
 use Rattle.event_log.specs.Entries.{Evict, Lose, KillNode}
-use Rattle.fault_lists.specs.declared.fault_list.FaultList.{FaultList}
+use Rattle.faulted_history.specs.declared.fault_list.FaultList.{FaultList}
 use Rattle.fault_lists.specs.Lists.{alone, evictions, losses, node_deaths}
 
 one_more : (n : ℕ) → n + 1 ≡ suc n

@@ -4,7 +4,7 @@ use Rattle.meaning.specs.Values.{Outcome}
 use Rattle.event_log.specs.Entries.{Fault, Event, Kill, KillNode, Entry, In, Begun, main_attempt}
 use Rattle.event_log.specs.Events.{refused_next}
 use Rattle.event_log.specs.Words.{same_attempt}
-use Rattle.report_text.specs.Main.{main_end, main_fault}
+use Rattle.report_text.specs.of_report_lines.Main.{main_end, main_fault}
 use Rattle.fault_lists.specs.declared.ending.RunEnd.{RunEnd}
 use Rattle.fault_lists.specs.declared.ending.RunEnd.TheVariants.{AsSerial, Faulted, Open, Killed}
 

@@ -1,3 +1,4 @@
 pub mod Lists
 pub mod Ends
 pub mod Tables
+pub use Rattle.faulted_history.specs as of_faulted_history

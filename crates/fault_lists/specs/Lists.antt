@@ -1,34 +1,19 @@
 -- The lists of events that are a run's history with one fault more.
-use Rattle.std.specs.Prelude.{ℕ, zero, suc, ◌+◌, Bool, if◌then◌else◌, nat_lt, List, [], ◌∷◌, ◌++◌, Option, Some, None, map, take, drop}
+use Rattle.std.specs.Prelude.{ℕ, zero, suc, ◌+◌, Bool, if◌then◌else◌, nat_lt, List, [], ◌∷◌, ◌++◌, Option, Some, None, map}
 use Rattle.std.specs.List.{flat_map}
 use Rattle.meaning.specs.Values.{Id}
 use Rattle.event_log.specs.Entries.{Event, Notice, Evict, Lose, Kill, KillNode, Join, Entry, In, Opened, Born}
 use Rattle.event_log.specs.Events.{refused_next}
-use Rattle.log_words.specs.Tasks.{objects_made}
+use Rattle.log_words.specs.of_made_objects.Made.{objects_made}
 use Rattle.event_files.specs.declared.line.Line.{Line}
 use Rattle.event_files.specs.declared.line.Line.TheVariants as lines
 use Rattle.fault_lists.specs.declared.choice.FaultChoice.{FaultChoice}
-use Rattle.fault_lists.specs.declared.fault_list.FaultList.{FaultList}
+use Rattle.faulted_history.specs.declared.fault_list.FaultList.{FaultList}
 use Rattle.fault_lists.specs.declared.seen.Seen.{Seen}
 
 abbrev pub event_in : Entry → List Event
 event_in (In e seat) = e ∷ []
 event_in _ = []
-
--- ---- a list
-
--- a notice, if there is one
-abbrev pub notice_in : Option Event → List Event
-notice_in (Some e) = e ∷ []
-notice_in None = []
-
--- the fault, and behind it what main's worker is told
-abbrev pub fault_events : FaultList → List Event
-fault_events l = l.fault ∷ notice_in l.notice
-
--- the history with the fault in its place
-abbrev pub event_list : List Event → FaultList → List Event
-event_list events l = take l.place events ++ (fault_events l ++ drop l.place events)
 
 -- the events, and a settle behind them
 abbrev pub event_lines : List Event → List Line

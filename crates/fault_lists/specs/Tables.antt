@@ -4,14 +4,14 @@ use Rattle.std.specs.Fmt.{decimal}
 use Rattle.log_entries.specs.Texts.{event_text}
 use Rattle.event_files.specs.Printing.{events_text}
 use Rattle.event_log.specs.Entries.{Event, FaultKind, OwnerDied, PutLost, RetriesUsed}
-use Rattle.report_text.specs.Texts.{fault_text, kind_name}
+use Rattle.report_text.specs.of_report_lines.Texts.{fault_text, kind_name}
 use Rattle.fault_lists.specs.declared.ending.RunEnd.{RunEnd}
 use Rattle.fault_lists.specs.declared.ending.RunEnd.TheVariants as ends
-use Rattle.fault_lists.specs.declared.fault_list.FaultList.{FaultList}
+use Rattle.faulted_history.specs.declared.fault_list.FaultList.{FaultList}
 use Rattle.fault_lists.specs.declared.tried.EndKind.{EndKind}
 use Rattle.fault_lists.specs.declared.tried.EndKind.TheVariants as kinds
 use Rattle.fault_lists.specs.declared.tried.Tried.{Tried}
-use Rattle.fault_lists.specs.Lists.{event_list}
+use Rattle.faulted_history.specs.History.{event_list}
 
 abbrev pub same_fault : FaultKind → FaultKind → Bool
 same_fault OwnerDied OwnerDied = true

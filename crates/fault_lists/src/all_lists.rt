@@ -5,9 +5,9 @@ ghost use Rattle.std.specs.List.{flat_map};
 ghost use Rattle.fault_lists.specs.Lists.{alone, deaths, deaths_at, evictions, evictions_at, fault_lists, faults_at, losses, losses_at, node_deaths, node_deaths_at, told};
 
 use crate::choice::FaultChoice;
-use crate::fault_list::FaultList;
 use crate::log_events::is_refused_at;
 use crate::seen::Seen;
+use faulted_history::FaultList;
 use ids::{NodeId, ObjectId, WorkerId};
 use log_entries::{Entry, Event};
 use sequence::Seq;

@@ -4,7 +4,7 @@
 mod all_lists;
 mod choice;
 mod ending;
-mod fault_list;
+mod lines;
 mod log_events;
 mod seen;
 mod table;
@@ -14,7 +14,8 @@ mod tried;
 pub use all_lists::{fault_lists, first_lists};
 pub use choice::FaultChoice;
 pub use ending::{RunEnd, attempts_in, end_of};
-pub use fault_list::{FaultList, event_lines, event_list};
+pub use faulted_history::{FaultList, event_list};
+pub use lines::event_lines;
 pub use log_events::events_in;
 pub use table::table_text;
 pub use told::{list_file, list_text};

@@ -4,9 +4,9 @@ ghost use Rattle.std.specs.Prelude.{◌≡◌, ◌++◌, IfOk, OnOk, string_byte
 ghost use Rattle.fault_lists.specs.Tables.{end_text, fault_list_text, list_file, list_text, place_text};
 
 use crate::ending::RunEnd;
-use crate::fault_list::{FaultList, event_list};
 use crate::tried::Tried;
 use event_files::print_events;
+use faulted_history::{FaultList, event_list};
 use log_entries::Event;
 use report_text::kind_name;
 use std::alloc::{AllocError, Global};

@@ -4,7 +4,7 @@ ghost use Rattle.std.specs.Prelude.{◌≡◌, ◌+◌, ◌*◌, ◌^◌, ◌≤
 ghost use Rattle.fault_lists.specs.Tables.{all_attempts, count_of, first_of, has_kind, is_survived, most_attempts, most_from, same_fault, status_of_all};
 
 use crate::ending::RunEnd;
-use crate::fault_list::FaultList;
+use faulted_history::FaultList;
 use values::FaultKind;
 
 /// A list that was tried, how main ended, and how many attempts were begun, without main's.

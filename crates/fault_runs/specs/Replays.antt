@@ -9,9 +9,10 @@ use Rattle.protocol_board.specs.Replays.{Play, PlayStops, Plays}
 use Rattle.protocol_board.specs.declared.stopped.ReplayStop.TheVariants as stops
 use Rattle.fault_lists.specs.declared.ending.RunEnd.{RunEnd}
 use Rattle.fault_lists.specs.declared.ending.RunEnd.TheVariants as ends
-use Rattle.fault_lists.specs.declared.fault_list.FaultList.{FaultList}
+use Rattle.fault_lists.specs.of_faulted_history.declared.fault_list.FaultList.{FaultList}
 use Rattle.fault_lists.specs.declared.tried.Tried.{Tried}
-use Rattle.fault_lists.specs.Lists.{event_lines, event_list}
+use Rattle.fault_lists.specs.of_faulted_history.History.{event_list}
+use Rattle.fault_lists.specs.Lists.{event_lines}
 use Rattle.fault_lists.specs.Ends.{attempts_in, end_of}
 
 -- a replay on such a cluster, as it begins

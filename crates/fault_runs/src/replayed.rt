@@ -42,7 +42,10 @@ pub fn replay_lines<S: ScriptName>(
             replay,
             is_stopped: true,
         }),
-        Err(ReplayStop::NoMemory) => Err(NoMemory),
+        Err(ReplayStop::NoMemory) => {
+            drop(replay);
+            Err(NoMemory)
+        }
         // No line of format 1 says which job a claim gives.
         Err(ReplayStop::WrongJob) => unreachable!(),
     }

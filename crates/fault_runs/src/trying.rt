@@ -53,10 +53,13 @@ fn try_list<S: ScriptName>(
     };
     let run = replay_lines::<S>(alloc, script, cluster, &lines)?;
     let log = run.replay.board().log();
+    let end = end_or_stop(run.is_stopped, log);
+    let attempts = attempts_in(log);
+    drop(run);
     Ok(Tried {
         list,
-        end: end_or_stop(run.is_stopped, log),
-        attempts: attempts_in(log),
+        end,
+        attempts,
     })
 }
 

@@ -8,8 +8,8 @@ use Rattle.values.specs.Listed.{ids_in_outcome, each_once}
 use Rattle.report.specs.ValueTexts.{id_text}
 use Rattle.event_log.specs.Entries.{Attempt, Fault, Entry}
 use Rattle.event_log.specs.Words.{births}
-use Rattle.report_text.specs.Texts.{attempt_text, fault_text}
-use Rattle.report_text.specs.Attempts.{state_of}
+use Rattle.report_text.specs.of_report_lines.Texts.{attempt_text, fault_text}
+use Rattle.report_text.specs.of_report_lines.Attempts.{state_of}
 use Rattle.log_words.specs.declared.contents.Contents.{Contents}
 use Rattle.log_words.specs.Contents.{content_text}
 use Rattle.lineage_text.specs.Edges.{named_edge}

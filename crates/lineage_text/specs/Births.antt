@@ -8,7 +8,7 @@ use Rattle.log_words.specs.declared.contents.Contents.{Contents}
 use Rattle.log_words.specs.Calls.{call_text}
 use Rattle.log_words.specs.Contents.{shown_text}
 use Rattle.log_words.specs.Ids.{ids_of}
-use Rattle.log_words.specs.Tasks.{objects_made}
+use Rattle.log_words.specs.of_made_objects.Made.{objects_made}
 use Rattle.lineage_text.specs.Edges.{named_edge, argument_edges}
 
 unfoldable pub node_head : Id → List ℕ

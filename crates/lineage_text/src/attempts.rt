@@ -4,7 +4,7 @@ ghost use Rattle.std.specs.Prelude.{◌≡◌, ◌++◌, IfOk, List, OnOk, Some,
 ghost use Rattle.std.specs.List.{flat_map};
 ghost use Rattle.values.specs.Values.{content_of};
 ghost use Rattle.event_log.specs.Entries.{Entry as Logged};
-ghost use Rattle.report_text.specs.Attempts.{AreStatesOf};
+ghost use Rattle.report_text.specs.of_report_lines.Attempts.{AreStatesOf};
 ghost use Rattle.log_words.specs.Index.{IsIndexOf};
 ghost use Rattle.lineage_text.specs.Attempts.{attempt_edge, attempt_node, begun_text, content_edges, ended_text, fate_head, fate_tail, fault_edge, fault_tail, faulted_text};
 ghost use Rattle.lineage_text.specs.Attempts.{named_edges, result_edges, task_objects};

@@ -1,7 +1,7 @@
 // What each entry adds to the graph.
 
 ghost use Rattle.std.specs.Prelude.{◌≡◌, ◌++◌, OnOk, string_bytes};
-ghost use Rattle.report_text.specs.Attempts.{AreStatesOf};
+ghost use Rattle.report_text.specs.of_report_lines.Attempts.{AreStatesOf};
 ghost use Rattle.log_words.specs.Index.{IsIndexOf};
 ghost use Rattle.lineage_text.specs.Entries.{lineage_in, released_text, resolved_head, resolved_text};
 

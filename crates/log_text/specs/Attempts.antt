@@ -4,7 +4,7 @@ use Rattle.std.specs.Fmt.{decimal}
 use Rattle.meaning.specs.Values.{Birth, Task}
 use Rattle.meaning.specs.Births.{Bearing, birth_at}
 use Rattle.log_words.specs.of_event_log.Entries.{Attempt}
-use Rattle.log_words.specs.of_report_text.Texts.{attempt_text}
+use Rattle.log_words.specs.of_report_lines.Texts.{attempt_text}
 use Rattle.log_words.specs.declared.contents.Contents.{Contents}
 use Rattle.log_words.specs.Calls.{call_text}
 

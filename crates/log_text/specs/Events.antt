@@ -4,7 +4,7 @@ use Rattle.std.specs.Fmt.{decimal}
 use Rattle.report.specs.ValueTexts.{id_text}
 use Rattle.log_words.specs.of_event_log.Entries.{Event, Claim, Commit, Deliver, Tick, Notice, NoticeNode, Evict, Lose, Kill, KillNode, Join}
 use Rattle.log_words.specs.of_event_log.Events.{from_one}
-use Rattle.log_words.specs.of_report_text.Texts.{event_text}
+use Rattle.log_words.specs.of_report_lines.Texts.{event_text}
 
 -- a commit of a job that was never given out is in no legal log
 abbrev pub done_text : Option ℕ → ℕ → List ℕ

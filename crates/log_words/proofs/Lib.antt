@@ -1,4 +1,2 @@
-pub mod Behind
-pub mod Cutting
 pub mod Indexed
 pub mod Making

@@ -10,7 +10,7 @@ use Rattle.meaning.proofs.BirthLaws.{same_id-true, at_test, made_owner, made_fro
 use Rattle.report_text.specs.of_event_log.Entries.{Entry, Born, main_object}
 use Rattle.report_text.specs.of_event_log.Words as said
 use Rattle.report_text.specs.of_event_log.Words.{born_in, main_bearing}
-use Rattle.report_text.specs.Main.{first}
+use Rattle.report_text.specs.of_report_lines.Main.{first}
 use Rattle.log_words.specs.Tasks.{first_or, task_in, task_of}
 
 is_same : (p o : Id) → p.owner ≡ o.owner → p.serial ≡ o.serial → same_id p o ≡ true

@@ -6,7 +6,7 @@ use Rattle.report.specs.ValueTexts.{value_text}
 use Rattle.report.specs.MainLines.{trap_name}
 use Rattle.log_words.specs.declared.contents.Contents.{Contents}
 use Rattle.log_words.specs.declared.contents.Contents.TheVariants.{Cut, Whole}
-use Rattle.log_words.specs.Cut.{cut_text}
+use Rattle.cut_values.specs.Cut.{cut_text}
 
 -- as a report has it, or with its long lists cut
 abbrev pub shown_text : Contents → Value → List ℕ

@@ -1,7 +1,7 @@
 -- The texts of faults, with what they mean.
 use Rattle.std.specs.Prelude.{ℕ, List, ◌++◌, codes}
 use Rattle.report_text.specs.of_event_log.Entries.{FaultKind, OwnerDied, PutLost, RetriesUsed, Fault}
-use Rattle.report_text.specs.Texts.{fault_text}
+use Rattle.report_text.specs.of_report_lines.Texts.{fault_text}
 
 -- what the kind says of the object in which the fault began
 abbrev pub kind_words : FaultKind → List ℕ

@@ -1,9 +1,10 @@
--- The task of which an object is a result, and the objects that a birth makes.
+-- The task of which an object is a result, and the objects of a task, listed.
 use Rattle.std.specs.Prelude.{ℕ, if◌then◌else◌, List, [], ◌∷◌, ◌++◌, codes, Option, Some, None}
 use Rattle.std.specs.List.{flat_map}
 use Rattle.report.specs.ValueTexts.{id_text}
 use Rattle.meaning.specs.Values.{Id, Birth}
-use Rattle.meaning.specs.Births.{Bearing, is_made_by, Part, part_at, objects_in}
+use Rattle.meaning.specs.Births.{Bearing, is_made_by, Part, part_at}
+use Rattle.made_objects.specs.Made.{objects_made}
 use Rattle.report_text.specs.of_event_log.Entries.{Entry, Born}
 
 abbrev pub first_or : Id → Option Part → Id
@@ -18,10 +19,6 @@ task_of births o = first_or o (part_at births o)
 abbrev pub task_in : Id → Entry → List Id
 task_in o (Born p a b) = if is_made_by (record { object = p; birth = b }) o then p ∷ [] else []
 task_in o _ = []
-
--- the objects of the birth whose first object is this
-unfoldable pub objects_made : Id → Birth → List Id
-objects_made o b = objects_in (record { object = o; birth = b })
 
 -- an object behind the first
 abbrev pub other_object : Id → List ℕ

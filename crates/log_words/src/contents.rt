@@ -5,7 +5,7 @@ ghost use Rattle.std.specs.List.{flat_map};
 ghost use Rattle.values.specs.Values.{content_of, value_of};
 ghost use Rattle.log_words.specs.Contents.{content_text, contents_text, other_content, shown_text};
 
-use crate::cut::write_cut;
+use cut_values::write_cut;
 use held::SharedContent;
 use report::trap_name;
 use sequence::Seq;

@@ -4,7 +4,6 @@
 mod births;
 mod calls;
 mod contents;
-mod cut;
 mod faults;
 mod objects;
 mod tasks;
@@ -14,6 +13,7 @@ pub use births::BirthIndex;
 pub use calls::{write_birth, write_call};
 pub use contents::{Contents, write_content, write_contents, write_value};
 pub use faults::{kind_words, write_fault};
+pub use made_objects::add_objects;
 pub use objects::ids_of;
-pub use tasks::{add_objects, objects_at, task_of, write_objects};
+pub use tasks::{objects_at, task_of, write_objects};
 pub use told::{Told, is_refusal_at, worker_of_job};

@@ -1,81 +1,24 @@
-// The task of which an object is a result, and the objects that a birth makes.
+// The task of which an object is a result, and the objects of a task, listed.
 
 ghost use Rattle.std.specs.Prelude.{◌≡◌, ◌++◌, IfOk, OnOk, option_copied, string_bytes};
 ghost use Rattle.std.specs.List.{flat_map};
 ghost use Rattle.std.specs.Option.{option_map};
-ghost use Rattle.meaning.specs.Values.{others_of};
-ghost use Rattle.meaning.specs.Births.{is_made_by, objects_at, objects_with};
-ghost use Rattle.meaning.specs.Runs.{ids_from, past};
+ghost use Rattle.meaning.specs.Births.{objects_at, objects_with};
 ghost use Rattle.task_spec.specs.Births.{birth_of};
+ghost use Rattle.made_objects.specs.Made.{objects_made};
 ghost use Rattle.report_text.specs.of_event_log.Words.{births};
-ghost use Rattle.report_text.specs.Main.{first};
+ghost use Rattle.report_text.specs.of_report_lines.Main.{first};
 ghost use Rattle.log_words.specs.Index.{IsIndexOf};
-ghost use Rattle.log_words.specs.Tasks.{listed_text, objects_made, objects_text, other_object, task_in, task_of};
+ghost use Rattle.log_words.specs.Tasks.{listed_text, objects_text, other_object, task_in, task_of};
 
 use crate::births::{BirthIndex, is_main};
 use ids::ObjectId;
 use log_entries::Entry;
-use sequence::refused_growth;
+use made_objects::{add_objects, is_made_by};
 use std::alloc::{AllocError, Global};
 use task_spec::Birth;
 
-/// How many objects the birth makes beside the first.
-fn others_of(birth: &Birth) -> u8
-    ensures { result ≡ others_of (birth_of birth.now) }
-{
-    match birth {
-        Birth::Put(_) => 0,
-        Birth::Task { others, .. } => *others,
-    }
-}
-
-/// Whether the birth whose first object is that one makes the object.
-#[tactic(auto, unfolding(meaning::specs::Births::is_made_by))]
-fn is_made_by(object: ObjectId, first: ObjectId, birth: &Birth) -> bool
-    ensures { result ≡ is_made_by (record { object = first; birth = birth_of birth.now }) object }
-{
-    let others = u64::from(others_of(birth));
-    first.owner.0 == object.owner.0
-        && object.serial >= first.serial
-        && object.serial - first.serial <= others
-}
-
-/// The object so many behind that one. None has a serial past 2^64 - 1, where no task comes.
-fn object_behind(alloc: Global, object: ObjectId, count: u64) -> Result<ObjectId, AllocError>
-    ensures { IfOk result (λ o. o ≡ past object count) }
-{
-    let owner = object.owner;
-    match object.serial.checked_add(count) {
-        Some(serial) => Ok(ObjectId { owner, serial }),
-        None => Err(refused_growth(alloc)),
-    }
-}
-
-/// Adds so many objects of one owner, whose serials follow one another from that object's on.
-fn add_from(objects: &mut Vec<ObjectId>, first: ObjectId, count: u64) -> Result<(), AllocError>
-    ensures { OnOk result (objects.new.items ≡ objects.old.items ++ ids_from first count) }
-{
-    let alloc = *objects.allocator();
-    for place in 0..count {
-        objects.push(object_behind(alloc, first, place)?)?;
-    }
-    Ok(())
-}
-
-/// Adds the objects of the birth whose first object is this, in order.
-#[tactic(auto, unfolding(crate::specs::Tasks::objects_made))]
-pub fn add_objects(
-    objects: &mut Vec<ObjectId>,
-    object: ObjectId,
-    birth: &Birth,
-) -> Result<(), AllocError>
-    ensures { OnOk result (objects.new.items ≡ objects.old.items ++ objects_made object (birth_of birth.now)) }
-{
-    let others = u64::from(others_of(birth));
-    add_from(objects, object, others + 1)
-}
-
-#[tactic(auto, unfolding(crate::specs::Tasks::objects_made))]
+#[tactic(auto, unfolding(made_objects::specs::Made::objects_made))]
 fn objects_with(
     alloc: Global,
     first: ObjectId,

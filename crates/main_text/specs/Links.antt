@@ -8,7 +8,7 @@ use Rattle.meaning.specs.Births.{Bearing, birth_at}
 use Rattle.event_log.specs.Entries.{Attempt, Claim, Commit, Deliver, Entry, Event, Kill, Notice, NoticeNode, Tick}
 use Rattle.event_log.specs.Events.{from_one}
 use Rattle.event_log.specs.Words.{births}
-use Rattle.report_text.specs.Texts.{event_text}
+use Rattle.report_text.specs.of_report_lines.Texts.{event_text}
 use Rattle.log_words.specs.declared.contents.Contents.{Contents}
 use Rattle.log_words.specs.Calls.{birth_text}
 use Rattle.log_words.specs.Tasks.{task_of}

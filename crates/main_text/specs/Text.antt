@@ -3,7 +3,7 @@ use Rattle.std.specs.Prelude.{List, None, Option, Some, [], codes, length, ℕ, 
 use Rattle.meaning.specs.Values.{Outcome, Trapped, Val}
 use Rattle.event_log.specs.Entries.{Entry, main_attempt}
 use Rattle.event_log.specs.Words.{Lack, faults_of}
-use Rattle.report_text.specs.Main.{first, main_end}
+use Rattle.report_text.specs.of_report_lines.Main.{first, main_end}
 use Rattle.log_words.specs.declared.contents.Contents.{Contents}
 use Rattle.log_words.specs.Contents.{content_text}
 use Rattle.protocol_data.specs.declared.cluster_state.ClusterState.{ClusterState}

@@ -6,7 +6,7 @@ use Rattle.meaning.specs.Values.{Broken, DivZero, Id, Index, Loop, Outcome, Over
 use Rattle.report.specs.MainLines.{trap_name}
 use Rattle.event_log.specs.Entries.{Attempt, Ended, Entry, Got}
 use Rattle.event_log.specs.Words.{births, same_attempt}
-use Rattle.report_text.specs.Main.{first}
+use Rattle.report_text.specs.of_report_lines.Main.{first}
 use Rattle.log_text.specs.Attempts.{named_text}
 use Rattle.protocol_data.specs.declared.job.JobRecord.{JobRecord}
 use Rattle.log_words.specs.declared.contents.Contents.{Contents}

@@ -5,7 +5,7 @@ ghost use Rattle.std.specs.List.{flat_map};
 ghost use Rattle.std.specs.Option.{option_map};
 ghost use Rattle.values.specs.Values.{content_of, trap_of};
 ghost use Rattle.event_log.specs.Words.{births};
-ghost use Rattle.report_text.specs.Main.{first};
+ghost use Rattle.report_text.specs.of_report_lines.Main.{first};
 ghost use Rattle.log_words.specs.Index.{IsIndexOf};
 ghost use Rattle.why_text.specs.Again.{runner_of};
 ghost use Rattle.main_text.specs.Traps.{answer_count, behind_text, count_in, operators, own_text, run_text, runner_note};

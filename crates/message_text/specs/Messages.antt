@@ -5,7 +5,7 @@ use Rattle.std.specs.Fmt.{decimal}
 use Rattle.report.specs.ValueTexts.{id_text}
 use Rattle.meaning.specs.Values.{Id, Birth, Outcome}
 use Rattle.event_log.specs.Entries.{Attempt}
-use Rattle.report_text.specs.Texts.{attempt_text, fault_text}
+use Rattle.report_text.specs.of_report_lines.Texts.{attempt_text, fault_text}
 use Rattle.log_words.specs.declared.contents.Contents.{Contents}
 use Rattle.log_words.specs.Calls.{birth_text}
 use Rattle.log_words.specs.Contents.{content_text}

@@ -1,9 +1,5 @@
-pub mod Adding
-pub mod Borne
 pub mod Circles
-pub mod Contents
 pub mod Each
-pub mod LogLaws
 pub mod Plans
 pub mod Remaking
 pub mod Told

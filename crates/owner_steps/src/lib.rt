@@ -1,17 +1,13 @@
-//! What a worker does as the owner of its objects, and how its own attempt goes on: asks, beginnings and broken attempts, ends that are
-//! accepted, answers to whoever waits, lost objects that are made again, needs, claims and commits. Each function is equal to its pure step in
-//! `protocol`. An error is want of memory, and then nothing is said of the tables.
+//! What a worker does as the owner of its objects: asks, beginnings and broken attempts, ends that are accepted, answers to whoever waits, lost
+//! objects that are made again, and needs. Each function is equal to its pure step in `protocol`. An error is want of memory, and then nothing is
+//! said of the tables.
 #![tactic(auto, unfolding(meaning::specs::Births::same_id, ids::specs::Attempts::same_attempt))]
 
 mod again;
 mod answers;
 mod askers;
-mod birth_ids;
-mod births;
-mod commits;
 mod ends;
 mod faulted;
-mod logged;
 mod needs;
 mod recovery;
 mod results;
@@ -19,8 +15,7 @@ mod results;
 pub use again::{ask_next, break_attempt, elsewhere_reached, given_reached};
 pub use answers::answer_settled;
 pub use askers::{missing_reached, where_reached};
-pub use births::bear_all;
-pub use commits::{claim_step, commit_step};
 pub use ends::{failed_reached, finished_reached};
 pub use needs::need_own;
 pub use recovery::recover;
+pub use results::{hold_all, id_behind};

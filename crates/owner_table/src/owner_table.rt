@@ -8,11 +8,12 @@ ghost use Rattle.protocol.specs.Notices.{notice_node_step, notice_step};
 ghost use Rattle.protocol.specs.Locations.{adds_locations, missing_reached, where_reached};
 ghost use Rattle.protocol.specs.Releases.{release_step};
 
+use commit_steps::bear_all;
+use commit_steps::owner_steps::{
+    failed_reached, finished_reached, given_reached, missing_reached, where_reached,
+};
 use held::SharedBirth;
 use ids::{AttemptId, NodeId, ObjectId, WorkerId};
-use owner_steps::{
-    bear_all, failed_reached, finished_reached, given_reached, missing_reached, where_reached,
-};
 use protocol_data::{EndedResult, Endpoint, WorkerContext};
 use sequence::Seq;
 use std::alloc::{AllocError, Global};

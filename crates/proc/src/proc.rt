@@ -6,8 +6,8 @@ ghost use Rattle.protocol.specs.Deliveries.{reached};
 ghost use Rattle.protocol.specs.Notices.{notice_node_step, notice_step};
 ghost use Rattle.protocol.specs.Ticks.{tick_step};
 
+use commit_steps::{claim_step, commit_step};
 use ids::{NodeId, WorkerId};
-use owner_steps::{claim_step, commit_step};
 use protocol_data::{Endpoint, Message, Outcomes, WorkerContext};
 use std::alloc::{AllocError, Global};
 use worker_acts::{notice_node_step, notice_step, reached, tick_step};

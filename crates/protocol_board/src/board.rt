@@ -6,7 +6,7 @@ ghost use Rattle.protocol_core.specs.Own.{GivesOwn, IsOwn};
 ghost use Rattle.protocol_core.specs.Limits.{Limits};
 ghost use Rattle.protocol_core.specs.Owed.{Pays};
 ghost use Rattle.protocol_core.specs.Steps.{Answers, AnswersAsShown, reply_of};
-ghost use Rattle.report_text.specs.Main.{status_of};
+ghost use Rattle.report_text.specs.of_report_lines.Main.{status_of};
 ghost use Rattle.report_text.specs.Report.{report_text};
 ghost use Rattle.protocol_core.specs.Meant.{IsSoundLog};
 ghost use Rattle.protocol_board.specs.Reports.{json_text};

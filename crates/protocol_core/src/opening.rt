@@ -78,9 +78,9 @@ fn main_run(alloc: Global) -> Result<Execution, AllocError>
 fn driver(alloc: Global) -> Result<Worker, AllocError>
     ensures { IfOk result (λ worker. worker ≡ driver) }
 {
-    let run = main_run(alloc)?;
     let mut began = Attempts::new(alloc);
     began.push(main_attempt())?;
+    let run = main_run(alloc)?;
     Ok(Worker {
         node: NodeId(1),
         is_live: true,

@@ -75,8 +75,8 @@ impl State {
         ensures { IfOk result (λ c. state_of c ≡ first_state cluster.nodes cluster.slots) }
     {
         let first_nodes = cluster.nodes();
-        let whole = first_whole(alloc, first_nodes, cluster.slots())?;
         let log = opening(alloc)?;
+        let whole = first_whole(alloc, first_nodes, cluster.slots())?;
         Ok(State {
             whole,
             log,

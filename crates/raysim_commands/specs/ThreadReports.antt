@@ -9,7 +9,7 @@ use Rattle.event_files.specs.declared.plan.PlanLine.{PlanLine}
 use Rattle.event_files.specs.Files.{IsBadAt, IsFile}
 use Rattle.event_files.specs.Plans.{IsPlanLine, plan_line_text}
 use Rattle.event_files.specs.Recorded.{recorded_file}
-use Rattle.report_text.specs.Main.{status_of}
+use Rattle.report_text.specs.of_report_lines.Main.{status_of}
 use Rattle.run_commands.specs.of_protocol_board.Cores.{RunState, Size}
 use Rattle.run_commands.specs.of_protocol_board.Cores.{IsSoundLog}
 use Rattle.run_commands.specs.of_protocol_board.Replays.{Play, PlaysFile}

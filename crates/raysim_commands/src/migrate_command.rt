@@ -78,9 +78,19 @@ fn migrate_script<S: ScriptName>(
     let core = Core::<S>::new(alloc, script.script(), cluster)?;
     let mut replay = Replay::new(alloc, core);
     match replay.play(alloc, script, lines) {
-        Ok(()) => Ok(history(alloc, replay.board().log())?),
-        Err(ReplayStop::NoMemory) => Err(CommandRefusal::NoMemory),
-        Err(ReplayStop::TooLong) => Err(CommandRefusal::Stopped { code: 41 }),
+        Ok(()) => {
+            let written = history(alloc, replay.board().log());
+            drop(replay);
+            Ok(written?)
+        }
+        Err(ReplayStop::NoMemory) => {
+            drop(replay);
+            Err(CommandRefusal::NoMemory)
+        }
+        Err(ReplayStop::TooLong) => {
+            drop(replay);
+            Err(CommandRefusal::Stopped { code: 41 })
+        }
         // No line of format 1 says which job a claim gives.
         Err(ReplayStop::WrongJob) => unreachable!(),
     }

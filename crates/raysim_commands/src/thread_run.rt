@@ -51,6 +51,19 @@ fn outputs_of<S: ScriptName>(
     })
 }
 
+/// What is written of a run that is over, which is let go of.
+fn outputs_behind<S: ScriptName>(
+    alloc: Global,
+    board: Board<S>,
+    form: Form,
+) -> Result<Outputs, AllocError>
+    ensures { IfOk result (λ out. AreOutputs S.script board form (string_bytes out.report) (string_bytes out.history) out.status) }
+{
+    let outputs = outputs_of(alloc, &board, form);
+    drop(board);
+    outputs
+}
+
 /// The refusal of a run that is at a limit.
 fn at_limit<S: ScriptName>(board: &Board<S>) -> CommandRefusal
     ensures { (plan : List PlanLine) (size : Size) (threads : ℕ) → IsAtLimit S.script false plan size board.now → AreFrom threads board.now.log →
@@ -85,8 +98,12 @@ pub fn run_script<S: ScriptName + Send + Sync, K: Gate + Sync, R: Threads + Wait
     let core = Core::<S>::new(alloc, script.script(), cluster)?;
     let board = Board::new(core);
     match run_on_threads(rt, alloc, board, plan, threads, script, gate)? {
-        Ended::Over(board) => Ok(outputs_of(alloc, &board, form)?),
-        Ended::AtLimit(board) => Err(at_limit(&board)),
+        Ended::Over(board) => Ok(outputs_behind(alloc, board, form)?),
+        Ended::AtLimit(board) => {
+            let refusal = at_limit(&board);
+            drop(board);
+            Err(refusal)
+        }
         Ended::NoMemory => Err(CommandRefusal::NoMemory),
     }
 }

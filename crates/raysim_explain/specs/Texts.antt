@@ -95,7 +95,7 @@ cause_of Limit = codes "The event would make object 1,000,001, worker 1,025 or n
 cause_of Halted = codes "An earlier event found no memory (39), so no further event is taken."
 cause_of NoMemory = codes "There was no memory. A command then gives no report; the log of a run stays legal."
 cause_of BadLine = codes "A line of a file of events is no event, or the last line has no line feed. Lines are counted from 1."
-cause_of TooLong = codes "More than 100,000 events would be applied. A run that meets it ends with no report."
+cause_of TooLong = codes "More than 100,000 events would be applied. A replay that meets it ends with no report."
 cause_of WrongJob = codes "A claim gave another job than the line of a recorded history says. The file was recorded of another run."
 cause_of Failed = codes "A read or a write failed. After a failed write a beginning of the report is out."
 

@@ -235,7 +235,7 @@ impl RefusalCause {
             RefusalCause::BadLine =>
                 "A line of a file of events is no event, or the last line has no line feed. Lines are counted from 1.",
             RefusalCause::TooLong =>
-                "More than 100,000 events would be applied. A run that meets it ends with no report.",
+                "More than 100,000 events would be applied. A replay that meets it ends with no report.",
             RefusalCause::WrongJob =>
                 "A claim gave another job than the line of a recorded history says. The file was recorded of another run.",
             RefusalCause::Failed =>

@@ -8,8 +8,8 @@ use Rattle.serde_json.specs.Written.{has_float, items_have_float}
 use Rattle.meaning.specs.Values.{Value, Int, Items as AList, Named, Known, Values, none, more, Outcome, Val, Trapped}
 use Rattle.event_log.specs.Entries.{Fault, Event, Entry, Begun, Printed, Resolved, Released, Refused, main_attempt}
 use Rattle.event_log.specs.Words.{same_attempt}
-use Rattle.report_text.specs.Main.{main_end, main_fault}
-use Rattle.report_text.specs.Refusals.{last_in}
+use Rattle.report_text.specs.of_report_lines.Main.{main_end, main_fault}
+use Rattle.report_text.specs.of_report_lines.Refusals.{last_in}
 use Rattle.report_json.specs.Values.{value_data, values_data}
 use Rattle.report_json.specs.Main.{main_data}
 use Rattle.report_json.specs.Attempts.{attempt_data, attempt_in}

@@ -3,8 +3,8 @@ use Rattle.std.specs.Prelude.{ℕ, List, [], ◌∷◌, if◌then◌else◌, cod
 use Rattle.serde_json.specs.Data.{Data, number, unsigned, string, object, member, no_members}
 use Rattle.event_log.specs.Entries.{Attempt, Entry, Begun, main_attempt}
 use Rattle.event_log.specs.Words.{same_attempt}
-use Rattle.report_text.specs.Texts.{attempt_text}
-use Rattle.report_text.specs.Attempts.{state_of}
+use Rattle.report_text.specs.of_report_lines.Texts.{attempt_text}
+use Rattle.report_text.specs.of_report_lines.Attempts.{state_of}
 
 abbrev pub attempt_data : List Entry → Attempt → ℕ → Data
 attempt_data log a w =

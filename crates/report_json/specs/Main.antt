@@ -4,7 +4,7 @@ use Rattle.serde_json.specs.Data.{Data, string, object, member, no_members}
 use Rattle.meaning.specs.Values.{Outcome, Val, Trapped}
 use Rattle.event_log.specs.Entries.{Fault}
 use Rattle.report.specs.MainLines.{trap_name}
-use Rattle.report_text.specs.Texts.{kind_name}
+use Rattle.report_text.specs.of_report_lines.Texts.{kind_name}
 use Rattle.report_json.specs.Values.{id_data, value_data}
 
 abbrev pub end_data : Outcome → Data

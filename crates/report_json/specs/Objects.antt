@@ -3,7 +3,7 @@ use Rattle.std.specs.Prelude.{List, [], ◌∷◌, codes}
 use Rattle.serde_json.specs.Data.{Data, string, object, member, no_members}
 use Rattle.meaning.specs.Values.{Id}
 use Rattle.event_log.specs.Entries.{Fault, Entry, Printed, Resolved, Released}
-use Rattle.report_text.specs.Texts.{kind_name}
+use Rattle.report_text.specs.of_report_lines.Texts.{kind_name}
 use Rattle.report_json.specs.Values.{id_data, value_data}
 
 abbrev pub print_in : Entry → List Data

@@ -3,8 +3,8 @@ use Rattle.std.specs.Prelude.{ℕ, List, [], ◌∷◌, ◌++◌, Option, Some, 
 use Rattle.serde_json.specs.Data.{Data, number, unsigned, string, object, member, no_members}
 use Rattle.log_entries.specs.Refusals.{code_of}
 use Rattle.event_log.specs.Entries.{Event, Entry, Refused}
-use Rattle.report_text.specs.Texts.{event_text}
-use Rattle.report_text.specs.Refusals.{last_in}
+use Rattle.report_text.specs.of_report_lines.Texts.{event_text}
+use Rattle.report_text.specs.of_report_lines.Refusals.{last_in}
 
 -- a refusal with no event before it, which no legal log has, names none
 abbrev pub refusal_data : ℕ → Option Event → Data

@@ -4,7 +4,7 @@ use Rattle.std.specs.List.{flat_map}
 use Rattle.serde_json.specs.Data.{Data, array, object, member, no_members}
 use Rattle.serde_json.specs.View.{items_of}
 use Rattle.event_log.specs.Entries.{Entry}
-use Rattle.report_text.specs.Main.{main_end, main_fault}
+use Rattle.report_text.specs.of_report_lines.Main.{main_end, main_fault}
 use Rattle.report_json.specs.Main.{main_data}
 use Rattle.report_json.specs.Attempts.{attempt_in}
 use Rattle.report_json.specs.Objects.{print_in, release_in, resolve_in}

@@ -5,8 +5,8 @@ ghost use Rattle.serde_json.specs.Data.{array};
 ghost use Rattle.serde_json.specs.View.{view, items_of};
 ghost use Rattle.std.specs.List.{flat_map};
 ghost use Rattle.event_log.specs.Entries as logged;
-ghost use Rattle.report_text.specs.Attempts.{AreStatesOf};
-ghost use Rattle.report_text.specs.Texts.{attempt_text};
+ghost use Rattle.report_text.specs.of_report_lines.Attempts.{AreStatesOf};
+ghost use Rattle.report_text.specs.of_report_lines.Texts.{attempt_text};
 ghost use Rattle.report_json.specs.Attempts.{attempt_data, attempt_in};
 
 use crate::value::array_of;

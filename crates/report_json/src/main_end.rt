@@ -3,7 +3,7 @@
 ghost use Rattle.std.specs.Prelude.{◌≡◌, IfOk};
 ghost use Rattle.serde_json.specs.View.{view};
 ghost use Rattle.values.specs.Values.{content_of};
-ghost use Rattle.report_text.specs.Main.{main_end, main_fault};
+ghost use Rattle.report_text.specs.of_report_lines.Main.{main_end, main_fault};
 ghost use Rattle.report_json.specs.Main.{end_data, unended_data, main_data};
 
 use crate::value::{id_json, value_json};

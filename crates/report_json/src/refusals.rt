@@ -4,7 +4,7 @@ ghost use Rattle.std.specs.Prelude.{◌≡◌, ◌++◌, IfOk, OnOk, None, map, 
 ghost use Rattle.serde_json.specs.Data.{array};
 ghost use Rattle.serde_json.specs.View.{view, items_of};
 ghost use Rattle.log_entries.specs.Refusals.{code_of};
-ghost use Rattle.report_text.specs.Texts.{event_text};
+ghost use Rattle.report_text.specs.of_report_lines.Texts.{event_text};
 ghost use Rattle.report_json.specs.Refusals.{refusal_data, refused_in, refused_data};
 
 use crate::value::array_of;

@@ -15,10 +15,10 @@ use Rattle.event_log.specs.Words.{Lack, printed_by, ends_of, faults_of}
 use Rattle.event_log.specs.Serial.{reading_of, IsWhole, MainBegins}
 use Rattle.script_check.specs.Scripts.{IsWellTyped}
 use Rattle.report.specs.MainLines.{print_lines, end_line}
-use Rattle.report_text.specs.Main.{first as first_of, main_line, main_end, main_fault, status, unended_line}
-use Rattle.report_text.specs.Attempts.{attempt_in}
-use Rattle.report_text.specs.Objects.{resolve_in, release_in}
-use Rattle.report_text.specs.Refusals.{refused_lines}
+use Rattle.report_text.specs.of_report_lines.Main.{first as first_of, main_line, main_end, main_fault, status, unended_line}
+use Rattle.report_text.specs.of_report_lines.Attempts.{attempt_in}
+use Rattle.report_text.specs.of_report_lines.Objects.{resolve_in, release_in}
+use Rattle.report_text.specs.of_report_lines.Refusals.{refused_lines}
 use Rattle.report_text.specs.Report.{report_text}
 use Rattle.report.specs.ValueTexts.{value_text}
 use Rattle.serde_json.specs.Data.{array}
@@ -32,7 +32,7 @@ use Rattle.report_laws.specs.Serial.{serial_prints, serial_outcome}
 use Rattle.report_laws.specs.Begins.{BeginsWith, HasCause}
 use Rattle.report_laws.specs.Json.{SaysOfMain}
 use Rattle.report_laws.specs.Law.{AreAsSerial, ReportsBeginAsSerial, LinesBegin}
-use Rattle.report_text.proofs.Ends.{main_ends_are}
+use Rattle.report_text.proofs.of_report_lines.Ends.{main_ends_are}
 use Rattle.report_laws.proofs.Plain.{main_is_safe, first_ends, first_read, all_read, outcome_read}
 use Rattle.report_laws.proofs.Said.{lines_said, prints_said}
 

@@ -7,7 +7,7 @@ use Rattle.event_log.specs.Entries.{Entry, In, Refused, Opened, Begun, Born, Got
 use Rattle.event_log.specs.Words.{same_attempt, printed_by}
 use Rattle.report.specs.ValueTexts.{value_text}
 use Rattle.report.specs.MainLines.{print_lines}
-use Rattle.report_text.specs.Main.{print_in}
+use Rattle.report_text.specs.of_report_lines.Main.{print_in}
 use Rattle.report_json.specs.Values.{value_data}
 use Rattle.report_json.specs.Objects.{print_in as print_data_in}
 

@@ -6,7 +6,7 @@ use Rattle.meaning.specs.Syntax.{Script}
 use Rattle.event_log.specs.Entries.{Fault, Entry}
 use Rattle.event_log.specs.Serial.{IsCaused}
 use Rattle.report.specs.MainLines.{print_lines}
-use Rattle.report_text.specs.Main.{unended_line}
+use Rattle.report_text.specs.of_report_lines.Main.{unended_line}
 use Rattle.report_laws.specs.Serial.{serial_prints, serial_report, serial_status}
 
 -- Read aloud: A run's report begins as the output of `serial`. Where main ended, the report begins with the whole of that output, byte for

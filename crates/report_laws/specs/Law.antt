@@ -9,7 +9,7 @@ use Rattle.event_log.specs.Rules.{Setting}
 use Rattle.event_log.specs.Legal.{Legal}
 use Rattle.script_check.specs.Scripts.{IsWellTyped}
 use Rattle.report.specs.MainLines.{print_lines}
-use Rattle.report_text.specs.Main.{status_of}
+use Rattle.report_text.specs.of_report_lines.Main.{status_of}
 use Rattle.report_text.specs.Report.{report_text}
 use Rattle.report_json.specs.Report.{report_data}
 use Rattle.report_laws.specs.Begins.{BeginsWith, BeginsAsSerial}

@@ -6,7 +6,7 @@ use Rattle.meaning.specs.Runs.{serial_end, serial_trace}
 use Rattle.meaning.specs.Meaning.{serial_run}
 use Rattle.meaning.specs.Law.{prints_of}
 use Rattle.report.specs.MainLines.{print_lines, end_line}
-use Rattle.report_text.specs.Main.{status}
+use Rattle.report_text.specs.of_report_lines.Main.{status}
 
 -- what main prints, where every remote call is a plain call
 abbrev pub serial_prints : Script → List Value

@@ -1,2 +1,1 @@
-pub mod Ends
-mod Said
+pub use Rattle.report_lines.proofs as of_report_lines

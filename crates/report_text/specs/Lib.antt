@@ -1,7 +1,3 @@
-pub mod Texts
-pub mod Main
-pub mod Attempts
-pub mod Objects
-pub mod Refusals
 pub mod Report
-pub use Rattle.event_log.specs as of_event_log
+pub use Rattle.report_lines.specs.of_event_log as of_event_log
+pub use Rattle.report_lines.specs as of_report_lines

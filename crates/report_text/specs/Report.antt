@@ -1,11 +1,11 @@
 -- The report of a log, section by section.
 use Rattle.std.specs.Prelude.{ℕ, List, None, ◌++◌}
 use Rattle.std.specs.List.{flat_map}
-use Rattle.event_log.specs.Entries.{Entry}
-use Rattle.report_text.specs.Main.{print_in, main_line, main_end, main_fault}
-use Rattle.report_text.specs.Attempts.{attempt_in}
-use Rattle.report_text.specs.Objects.{resolve_in, release_in}
-use Rattle.report_text.specs.Refusals.{refused_lines}
+use Rattle.report_lines.specs.of_event_log.Entries.{Entry}
+use Rattle.report_lines.specs.Main.{print_in, main_line, main_end, main_fault}
+use Rattle.report_lines.specs.Attempts.{attempt_in}
+use Rattle.report_lines.specs.Objects.{resolve_in, release_in}
+use Rattle.report_lines.specs.Refusals.{refused_lines}
 
 -- six sections, each in the order of the log
 abbrev pub report_text : List Entry → List ℕ

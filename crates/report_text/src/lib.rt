@@ -1,17 +1,8 @@
-//! The report of a log: what was printed, how main and the other attempts went on, what became of objects, and which
-//! events were refused.
+//! The report of a log: the lines of what was printed, how main and the other attempts went on, what became of objects,
+//! and which events were refused.
 #![tactic(auto)]
 
-mod attempts;
-mod faults;
-pub mod main_end;
-mod objects;
-mod prints;
-mod refusals;
 mod text;
 
-pub use attempts::AttemptStates;
-pub use faults::kind_name;
-pub use main_end::status_of;
-pub use refusals::last_event;
+pub use report_lines::{AttemptStates, kind_name, last_event, main_end, status_of};
 pub use text::report_text;

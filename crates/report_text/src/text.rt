@@ -3,12 +3,10 @@
 ghost use Rattle.std.specs.Prelude.{◌≡◌, IfOk, string_bytes};
 ghost use Rattle.report_text.specs.Report.{report_text};
 
-use crate::attempts::write_attempts;
-use crate::main_end::write_main;
-use crate::objects::{write_releases, write_resolves};
-use crate::prints::write_prints;
-use crate::refusals::write_refusals;
-use log_entries::Entry;
+use report_lines::log_entries::Entry;
+use report_lines::{
+    write_attempts, write_main, write_prints, write_refusals, write_releases, write_resolves,
+};
 use std::alloc::{AllocError, Global};
 
 /// The report of a log, in lines that each end with a line feed, each section in the order of the log: the prints

@@ -7,7 +7,7 @@ use Rattle.script_check.proofs.Safe.{well_typed}
 use Rattle.books.specs.Lines.{book_lines}
 use Rattle.event_log.specs.Entries.{Entry}
 use Rattle.event_log.specs.Serial.{MainBegins}
-use Rattle.report_text.specs.Main.{status_of}
+use Rattle.report_text.specs.of_report_lines.Main.{status_of}
 use Rattle.report_text.specs.Report.{report_text}
 use Rattle.protocol_board.specs.Cores.{IsSoundLog, RunState}
 use Rattle.protocol_board.specs.Reports.{json_text}

@@ -8,7 +8,7 @@ use Rattle.event_files.specs.declared.event_file.EventFile.TheVariants as files
 use Rattle.event_files.specs.Recorded.{IsEventFile, IsFileRefusal}
 use Rattle.event_files.specs.Numbering.{line_numbers}
 use Rattle.event_log.specs.Events.{from_one}
-use Rattle.report_text.specs.Main.{status_of}
+use Rattle.report_text.specs.of_report_lines.Main.{status_of}
 use Rattle.protocol_board.specs.Cores.{Size, first_state}
 use Rattle.protocol_board.specs.declared.stopped.ReplayStop.{ReplayStop}
 use Rattle.protocol_board.specs.declared.stopped.ReplayStop.TheVariants as stops

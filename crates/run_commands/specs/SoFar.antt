@@ -2,7 +2,7 @@
 use Rattle.std.specs.Prelude.{◌≡◌, ◌⊎◌, ℕ, Bool, true, false, List, []}
 use Rattle.meaning.specs.Syntax.{Script}
 use Rattle.event_files.specs.declared.event_file.EventFile.{EventFile}
-use Rattle.report_text.specs.Main.{status_of}
+use Rattle.report_text.specs.of_report_lines.Main.{status_of}
 use Rattle.protocol_board.specs.Cores.{IsSoundLog, RunState, Size}
 use Rattle.protocol_board.specs.declared.stopped.ReplayStop.{ReplayStop}
 use Rattle.protocol_board.specs.declared.stopped.ReplayStop.TheVariants as stops

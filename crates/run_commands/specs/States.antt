@@ -7,7 +7,7 @@ use Rattle.event_files.specs.declared.event_file.EventFile.{EventFile}
 use Rattle.event_files.specs.declared.line.Line.{Line}
 use Rattle.event_files.specs.declared.line.Line.TheVariants as lines
 use Rattle.event_log.specs.Entries.{Entry, Event}
-use Rattle.report_text.specs.Main.{status_of}
+use Rattle.report_text.specs.of_report_lines.Main.{status_of}
 use Rattle.protocol_board.specs.Cores.{IsSoundLog, RunState, Size}
 use Rattle.protocol_board.specs.Replays.{Play}
 use Rattle.fault_lists.specs.Lists.{event_in}

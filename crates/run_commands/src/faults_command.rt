@@ -92,7 +92,9 @@ fn try_script<S: ScriptName, L: TrialWatcher>(
         Err(refusal) => return Err(refusal),
     };
     let log = replay.board().log();
-    try_faults::<S, L>(alloc, script, log, cluster, choice, most, watcher)
+    let told = try_faults::<S, L>(alloc, script, log, cluster, choice, most, watcher);
+    drop(replay);
+    told
 }
 
 /// Reads a script's text and then an event file of either format, applies the file's events to a run of the script on this cluster, and then replays the

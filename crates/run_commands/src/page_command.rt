@@ -82,7 +82,9 @@ fn page_script<S: ScriptName>(
         Ok(replay) => replay,
         Err(refusal) => return Err(refusal),
     };
-    page_now(alloc, text, &replay, cluster, contents)
+    let made = page_now(alloc, text, &replay, cluster, contents);
+    drop(replay);
+    made
 }
 
 /// Reads a script's text and then an event file of either format, applies the file's events to a run of the script on this cluster, and writes the

@@ -46,7 +46,11 @@ pub fn replayed<S: ScriptName>(
             let _ = replay.board().log();
             Ok(replay)
         }
-        Err(stopped) => Err(stop_refusal(stopped, number_of(&events.numbers, replay.begun()))),
+        Err(stopped) => {
+            let refusal = stop_refusal(stopped, number_of(&events.numbers, replay.begun()));
+            drop(replay);
+            Err(refusal)
+        }
     }
 }
 
@@ -95,6 +99,7 @@ pub fn replayed_so_far<S: ScriptName>(
     };
     let mut replay = Replay::new(alloc, core);
     if let Err(refusal) = play_so_far(alloc, &mut replay, script, says) {
+        drop(replay);
         return Err(refusal);
     }
     // This says what the log means.

@@ -36,10 +36,13 @@ fn run_script<S: ScriptName, L: Watcher>(
     let mut board = Board::new(core);
     let mut sent = Seq::new(alloc);
     if let Err(refusal) = drive(alloc, &mut board, &mut sent, script, watcher) {
+        drop(board);
         return Err(run_refusal(refusal));
     }
     let nowhere = Seq::new(alloc);
-    told(alloc, &board, &sent, &nowhere, form)
+    let told = told(alloc, &board, &sent, &nowhere, form);
+    drop(board);
+    told
 }
 
 /// Reads a script's text, runs its remote calls as tasks on this cluster until nothing is left to do, and writes the run's report

@@ -33,7 +33,9 @@ fn sim_script<S: ScriptName>(
         Ok(replay) => replay,
         Err(refusal) => return Err(refusal),
     };
-    told_replay(alloc, &replay, &events.numbers, form)
+    let told = told_replay(alloc, &replay, &events.numbers, form);
+    drop(replay);
+    told
 }
 
 /// Reads a script's text and then an event file of either format, applies the file's events to a run of the script on this cluster, and writes

@@ -68,10 +68,13 @@ fn run_script<S: ScriptName>(
     let mut board = Board::new(core);
     let mut sent = Seq::new(alloc);
     if let Err(refusal) = drive_so_far(alloc, &mut board, &mut sent, script) {
+        drop(board);
         return Err(refusal);
     }
     let nowhere = Seq::new(alloc);
-    told(alloc, &board, &sent, &nowhere, form)
+    let told = told(alloc, &board, &sent, &nowhere, form);
+    drop(board);
+    told
 }
 
 /// What is written of the run of a script as `run` drives it, up to its end, or to the event that is refused (at a limit, 37), which is then the
@@ -111,7 +114,9 @@ fn sim_script<S: ScriptName>(
         Ok(replay) => replay,
         Err(refusal) => return Err(refusal),
     };
-    told_replay(alloc, &replay, &events.numbers, form)
+    let told = told_replay(alloc, &replay, &events.numbers, form);
+    drop(replay);
+    told
 }
 
 /// What is written of the replay of a list of events as `sim` does it, up to its end, or to where it stops (41, or 42).

@@ -86,7 +86,11 @@ fn state_behind<S: ScriptName>(
         return Err(CommandRefusal::NoMemory);
     };
     match replay_lines::<S>(alloc, script, cluster, &lines) {
-        Ok(run) => state_now(alloc, run.replay.board(), event_count(log)),
+        Ok(run) => {
+            let told = state_now(alloc, run.replay.board(), event_count(log));
+            drop(run);
+            told
+        }
         Err(_) => Err(CommandRefusal::NoMemory),
     }
 }
@@ -107,7 +111,9 @@ fn state_script<S: ScriptName>(
         Ok(replay) => replay,
         Err(refusal) => return Err(refusal),
     };
-    state_behind::<S>(alloc, script, replay.board().log(), cluster, at)
+    let told = state_behind::<S>(alloc, script, replay.board().log(), cluster, at);
+    drop(replay);
+    told
 }
 
 /// Reads a script's text and then an event file of either format, applies the file's events to a run of the script on this cluster, and writes what

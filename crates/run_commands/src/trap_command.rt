@@ -83,9 +83,12 @@ fn run_script<S: ScriptName>(
     let mut board = Board::new(core);
     let mut sent = Seq::new(alloc);
     if let Err(refusal) = drive_so_far(alloc, &mut board, &mut sent, script) {
+        drop(board);
         return Err(refusal);
     }
-    told_of(alloc, placed, text, board.log(), asked)
+    let told = told_of(alloc, placed, text, board.log(), asked);
+    drop(board);
+    told
 }
 
 /// In which place of the script the trap comes about with which main ended in the run of a script as `run` drives it, or an attempt of an object: the
@@ -127,7 +130,9 @@ fn sim_script<S: ScriptName>(
         Ok(replay) => replay,
         Err(refusal) => return Err(refusal),
     };
-    told_of(alloc, placed, text, replay.board().log(), asked)
+    let told = told_of(alloc, placed, text, replay.board().log(), asked);
+    drop(replay);
+    told
 }
 
 /// The same of the replay of a list of events as `sim` does it.

@@ -2,7 +2,7 @@
 
 ghost use Rattle.std.specs.Prelude.{◌≡◌, ◌++◌, IfOk, OnOk, string_bytes};
 ghost use Rattle.std.specs.List.{flat_map};
-ghost use Rattle.report_text.specs.Main.{print_in};
+ghost use Rattle.report_text.specs.of_report_lines.Main.{print_in};
 
 use log_entries::Entry;
 use report::write_value;

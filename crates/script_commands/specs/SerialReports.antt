@@ -3,7 +3,7 @@ use Rattle.std.specs.Prelude.{◌≡◌, ◌⊎◌, ℕ, List, Option, Some, tak
 use Rattle.std.specs.Io.KnownBytes.{Appends}
 use Rattle.meaning.specs.Values.{Outcome}
 use Rattle.meaning.specs.Syntax.{Script}
-use Rattle.report_text.specs.Main.{status}
+use Rattle.report_text.specs.of_report_lines.Main.{status}
 use Rattle.report_laws.specs.Serial.{serial_report, serial_status}
 use Rattle.script_commands.specs.Scripts.{IsScript}
 

@@ -222,9 +222,14 @@ impl<
         ensures shared { IfOk result (λ r. r.0 ≡ n) }
         ensures seats { IfOk result (λ r. r.1.items ≡ new_seats 1 n) }
     {
-        let (ledgers, seats) = Ledgers::<P, E, G, C, J, V, H, D, M>::open(
-            alloc, blanks, further, n, watched,
-        )?;
+        let opened = Ledgers::<P, E, G, C, J, V, H, D, M>::open(alloc, blanks, further, n, watched);
+        let (ledgers, seats) = match opened {
+            Ok(opened) => opened,
+            Err(error) => {
+                drop(board);
+                return Err(error);
+            }
+        };
         let locked = begin::<S, P, E, G, C, J, V, H, D, M>(alloc, ledgers, board, plan);
         let shared = Shared {
             locked: Mutex::new(locked),

@@ -104,7 +104,13 @@ fn run_shared<
         alloc, blanks, further, board, plan, n, 1,
     )?;
     for _ in rt.forever() {
-        let back = sit(rt, alloc, &shared, seats, script, gate)?;
+        let back = match sit(rt, alloc, &shared, seats, script, gate) {
+            Ok(back) => back,
+            Err(error) => {
+                drop(shared);
+                return Err(error);
+            }
+        };
         match shared.end(alloc, back) {
             Ok(end) => return Ok(end),
             Err((again, left)) => {

@@ -318,7 +318,10 @@ impl<S: ScriptName, P: RunName> Turning<S, P> {
         match given_up {
             None => Ended::Over(board),
             Some(Refusal::Limit) => Ended::AtLimit(board),
-            Some(_) => Ended::NoMemory,
+            Some(_) => {
+                drop(board);
+                Ended::NoMemory
+            }
         }
     }
 

@@ -15,7 +15,7 @@ use Rattle.protocol_data.specs.declared.tables.Progress.TheVariants.{AskedAt, At
 use Rattle.protocol_data.specs.declared.tables.Worker.{Worker}
 use Rattle.protocol_data.specs.declared.cluster_state.ClusterState.{ClusterState}
 use Rattle.state_text.specs.Below.{below, node_words, worker_count}
-use Rattle.state_text.specs.Holders.{askers_text, frame_line, holders_text}
+use Rattle.holder_text.specs.Holders.{askers_text, frame_line, holders_text}
 use Rattle.state_text.specs.Tasks.{is_pending_at}
 
 abbrev pub function_name : Option Birth → Name

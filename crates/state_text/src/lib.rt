@@ -2,7 +2,6 @@
 #![tactic(auto)]
 
 mod copies;
-mod holders;
 mod nodes;
 mod objects;
 mod standing;

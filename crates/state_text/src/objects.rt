@@ -12,10 +12,10 @@ ghost use Rattle.state_text.specs.Objects.{object_head, object_text_of, objects_
 ghost use Rattle.state_text.specs.Objects.{placed_text, progress_text, resolved_note, rest_text, retries_line, row_lines};
 ghost use Rattle.state_text.specs.Objects.{settled_by, settled_note, stands_text, used_line, worker_objects};
 
-use crate::holders::{write_askers, write_frame, write_holders};
 use crate::standing::{worker_count, write_node_words};
 use crate::tasks::is_pending_at;
 use held::SharedContent;
+use holder_text::{write_askers, write_frame, write_holders};
 use ids::{AttemptId, NodeId, ObjectId, WorkerId};
 use log_entries::Entry;
 use log_words::{BirthIndex, write_fault};

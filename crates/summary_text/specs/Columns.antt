@@ -5,7 +5,7 @@ use Rattle.meaning.specs.Meaning.{same_name}
 use Rattle.meaning.specs.Values.{Birth, Id, Name, Put, Task}
 use Rattle.event_log.specs.Entries.{Attempt, Begun, Born, Ended, Entry, Faulted, Resolved}
 use Rattle.event_log.specs.Words.{attempt, births}
-use Rattle.report_text.specs.Attempts.{state_of}
+use Rattle.report_text.specs.of_report_lines.Attempts.{state_of}
 use Rattle.log_words.specs.Tasks.{task_of}
 use Rattle.summary_text.specs.declared.columns.Column.{Column}
 use Rattle.summary_text.specs.declared.columns.Column.TheVariants.{AfterDeaths, AfterLosses, Attempts, Faults, GivenUp, Results, Tasks}

@@ -5,7 +5,7 @@ ghost use Rattle.std.specs.Option.{option_map};
 ghost use Rattle.task_spec.specs.Births.{birth_of};
 ghost use Rattle.event_log.specs.Entries.{Entry as Logged};
 ghost use Rattle.event_log.specs.Words.{births};
-ghost use Rattle.report_text.specs.Attempts.{AreStatesOf};
+ghost use Rattle.report_text.specs.of_report_lines.Attempts.{AreStatesOf};
 ghost use Rattle.log_words.specs.Index.{IsIndexOf};
 ghost use Rattle.summary_text.specs.Columns.{begins, begins_after, born_in, column_count, ends, faults, is_born_of, is_counted};
 ghost use Rattle.summary_text.specs.Columns.{is_behind, is_further, is_made_by, is_of, is_result_of, source_of, resolves, was_accepted};

@@ -3,7 +3,7 @@
 ghost use Rattle.std.specs.Prelude.{◌≡◌, ◌<◌, ◌++◌, OnOk, length, string_bytes, take};
 ghost use Rattle.std.specs.List.{list_any};
 ghost use Rattle.task_spec.specs.Births.{birth_of};
-ghost use Rattle.report_text.specs.Attempts.{AreStatesOf};
+ghost use Rattle.report_text.specs.of_report_lines.Attempts.{AreStatesOf};
 ghost use Rattle.log_words.specs.Index.{IsIndexOf};
 ghost use Rattle.summary_text.specs.Columns.{born_in};
 ghost use Rattle.summary_text.specs.Functions.{attempts_words, birth_line, born_line, ends_words, function_at, function_line, functions_text};

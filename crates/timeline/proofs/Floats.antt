@@ -13,7 +13,7 @@ use Rattle.log_entries.specs.declared.event.Event.{Event}
 use Rattle.log_entries.specs.declared.event.Event.TheVariants as events
 use Rattle.event_log.specs.Entries.{Attempt, Entry}
 use Rattle.event_log.specs.Entries as entries
-use Rattle.report_text.specs.Texts.{fault_text}
+use Rattle.report_text.specs.of_report_lines.Texts.{fault_text}
 use Rattle.log_words.specs.declared.contents.Contents.{Contents}
 use Rattle.log_words.specs.Contents.{content_text, contents_text}
 use Rattle.log_words.specs.Told.{Told, nothing_told}

@@ -7,7 +7,7 @@ use Rattle.report.specs.ValueTexts.{id_text}
 use Rattle.log_entries.specs.declared.event.Event.{Event}
 use Rattle.log_entries.specs.declared.event.Event.TheVariants.{Kill, KillNode}
 use Rattle.event_log.specs.Entries.{Entry, In, Got, Ended, Faulted}
-use Rattle.report_text.specs.Texts.{fault_text}
+use Rattle.report_text.specs.of_report_lines.Texts.{fault_text}
 use Rattle.log_words.specs.declared.contents.Contents.{Contents}
 use Rattle.log_words.specs.Contents.{content_text, contents_text}
 use Rattle.timeline.specs.declared.rows.Row.{Row}

@@ -4,7 +4,7 @@ use Rattle.serde_json.specs.Data.{Data, number, unsigned, string, object, member
 use Rattle.meaning.specs.Values.{Birth, Put, Task}
 use Rattle.meaning.specs.Births.{Bearing, birth_at}
 use Rattle.event_log.specs.Entries.{Attempt}
-use Rattle.report_text.specs.Texts.{attempt_text}
+use Rattle.report_text.specs.of_report_lines.Texts.{attempt_text}
 use Rattle.log_words.specs.declared.contents.Contents.{Contents}
 use Rattle.log_words.specs.Calls.{call_text}
 use Rattle.timeline.specs.declared.rows.Row.{Row}

@@ -4,7 +4,7 @@ ghost use Rattle.std.specs.Prelude.{◌≡◌, ◌++◌, ◌==◌, [], IfOk, OnO
 ghost use Rattle.serde_json.specs.View.{view};
 ghost use Rattle.values.specs.Values.{content_of};
 ghost use Rattle.event_log.specs.Words.{births};
-ghost use Rattle.report_text.specs.Texts.{fault_text};
+ghost use Rattle.report_text.specs.of_report_lines.Texts.{fault_text};
 ghost use Rattle.log_words.specs.Index.{IsIndexOf};
 ghost use Rattle.log_words.specs.Contents.{content_text, contents_text};
 ghost use Rattle.timeline.specs.Endings.{both_spans, death_data, event_data, get_name, open_data, row_data};

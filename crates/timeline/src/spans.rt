@@ -5,7 +5,7 @@ ghost use Rattle.std.specs.Option.{option_map};
 ghost use Rattle.serde_json.specs.View.{view};
 ghost use Rattle.task_spec.specs.Births.{birth_of};
 ghost use Rattle.event_log.specs.Words.{births};
-ghost use Rattle.report_text.specs.Texts.{attempt_text};
+ghost use Rattle.report_text.specs.of_report_lines.Texts.{attempt_text};
 ghost use Rattle.log_words.specs.Index.{IsIndexOf};
 ghost use Rattle.timeline.specs.Spans.{args_data, attempt_spans, called, span_data, wait_spans};
 

@@ -5,7 +5,7 @@ use Rattle.meaning.specs.Births.{same_id}
 use Rattle.meaning.specs.Values.{Id, Outcome, Trapped, Val}
 use Rattle.event_log.specs.Entries.{Attempt, Ended, Entry, Got}
 use Rattle.event_log.specs.Words.{births, same_attempt}
-use Rattle.report_text.specs.Main.{first}
+use Rattle.report_text.specs.of_report_lines.Main.{first}
 use Rattle.log_words.specs.Tasks.{task_of}
 
 abbrev pub is_trap : Outcome → Bool

@@ -3,7 +3,7 @@
 ghost use Rattle.std.specs.Prelude.{◌≡◌};
 ghost use Rattle.std.specs.List.{list_any};
 ghost use Rattle.values.specs.Values.{content_of};
-ghost use Rattle.report_text.specs.Main.{first};
+ghost use Rattle.report_text.specs.of_report_lines.Main.{first};
 ghost use Rattle.trap_sources.specs.Chains.{is_trap, trap_after, trap_got, trap_origin, trapped_by, trapped_in, trapped_of};
 
 use held::SharedContent;

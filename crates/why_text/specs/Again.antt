@@ -6,8 +6,8 @@ use Rattle.meaning.specs.Values.{Id}
 use Rattle.meaning.specs.Births.{Bearing}
 use Rattle.event_log.specs.Entries.{Attempt, Event, KillNode, Entry, Begun, Accepted}
 use Rattle.event_log.specs.Words.{same_attempt}
-use Rattle.report_text.specs.Main.{first}
-use Rattle.report_text.specs.Texts.{attempt_text}
+use Rattle.report_text.specs.of_report_lines.Main.{first}
+use Rattle.report_text.specs.of_report_lines.Texts.{attempt_text}
 use Rattle.why_text.specs.Moments.{Moment, when_text}
 use Rattle.why_text.specs.Holders.{death_of}
 use Rattle.why_text.specs.Results.{objects_of}

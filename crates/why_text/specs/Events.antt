@@ -6,7 +6,7 @@ use Rattle.report.specs.ValueTexts.{id_text}
 use Rattle.meaning.specs.Values.{Id}
 use Rattle.meaning.specs.Births.{same_id}
 use Rattle.event_log.specs.Entries.{Attempt, Event, Notice, NoticeNode, Evict, Lose, Kill, KillNode}
-use Rattle.report_text.specs.Texts.{attempt_text}
+use Rattle.report_text.specs.of_report_lines.Texts.{attempt_text}
 use Rattle.log_text.specs.Mentions.{is_among}
 use Rattle.why_text.specs.Moments.{Moment, when_text}
 use Rattle.why_text.specs.Notes.{owner_text}

@@ -7,8 +7,8 @@ use Rattle.meaning.specs.Births.{Bearing, same_id}
 use Rattle.event_log.specs.Entries.{Attempt, FaultKind, OwnerDied, Fault, Kill, KillNode, Entry, In, Born, Ended, Released}
 use Rattle.event_log.specs.Words.{opened, same_attempt}
 use Rattle.event_log.specs.Events.{from_one, refused_next}
-use Rattle.report_text.specs.Main.{first}
-use Rattle.log_words.specs.Tasks.{objects_made}
+use Rattle.report_text.specs.of_report_lines.Main.{first}
+use Rattle.log_words.specs.of_made_objects.Made.{objects_made}
 use Rattle.log_text.specs.Mentions.{is_among, is_in_birth}
 use Rattle.why_text.specs.Moments.{Moment, first_moment, moment_after}
 use Rattle.why_text.specs.Results.{is_in_result, is_small_result, objects_of}

@@ -2,7 +2,7 @@
 use Rattle.std.specs.Prelude.{ℕ, ◌+◌, List, [], ◌++◌, codes, Option, Some, None, slice_get}
 use Rattle.std.specs.Fmt.{decimal}
 use Rattle.event_log.specs.Entries.{Event, Entry, In}
-use Rattle.report_text.specs.Texts.{event_text}
+use Rattle.report_text.specs.of_report_lines.Texts.{event_text}
 use Rattle.why_text.specs.declared.moments.Moment.{Moment as CodeMoment}
 
 -- how many events came, the last of them, and the line of the event file from which it came, if there is one

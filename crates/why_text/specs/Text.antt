@@ -8,7 +8,7 @@ use Rattle.event_log.specs.Entries.{Entry, Faulted, Resolved}
 use Rattle.event_log.specs.Events.{refused_next}
 use Rattle.event_log.specs.Words.{Lack, births}
 use Rattle.why_text.specs.declared.causes.Lack.{Lack as CodeLack}
-use Rattle.report_text.specs.Main.{first}
+use Rattle.report_text.specs.of_report_lines.Main.{first}
 use Rattle.log_words.specs.declared.contents.Contents.{Contents}
 use Rattle.log_words.specs.Faults.{fault_words}
 use Rattle.log_words.specs.Tasks.{task_of}

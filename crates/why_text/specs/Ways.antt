@@ -6,8 +6,9 @@ use Rattle.meaning.specs.Values.{Id}
 use Rattle.task_spec.specs.Dereferenced.{dereferenced_in}
 use Rattle.event_log.specs.Entries.{Born, Entry, Faulted}
 use Rattle.event_log.specs.Words.{births}
-use Rattle.report_text.specs.Main.{first}
-use Rattle.log_words.specs.Tasks.{objects_made, task_of}
+use Rattle.report_text.specs.of_report_lines.Main.{first}
+use Rattle.log_words.specs.of_made_objects.Made.{objects_made}
+use Rattle.log_words.specs.Tasks.{task_of}
 
 -- the object at whose get an attempt that is named by the other ended with a fault that began in z
 unfoldable pub lacked_in : Id → Id → Entry → List Id

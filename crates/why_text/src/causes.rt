@@ -4,7 +4,7 @@ ghost use Rattle.std.specs.Prelude.{◌≡◌, ◌++◌, IfOk, OnOk, length, str
 ghost use Rattle.std.specs.Option.{option_map};
 ghost use Rattle.event_log.specs.Entries.{main_attempt};
 ghost use Rattle.event_log.specs.Words.{faulted_in, faults_of};
-ghost use Rattle.report_text.specs.Main.{first};
+ghost use Rattle.report_text.specs.of_report_lines.Main.{first};
 ghost use Rattle.why_text.specs.Text.{cause, cause_by, cause_in, cause_text, causes_text, lack_of, main_lack_text, why_text};
 
 use crate::account::write_account;

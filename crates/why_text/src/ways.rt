@@ -2,7 +2,7 @@
 
 ghost use Rattle.std.specs.Prelude.{◌≡◌, ◌++◌, IfOk, OnOk, []};
 ghost use Rattle.std.specs.List.{filter, flat_map, list_any};
-ghost use Rattle.report_text.specs.Main.{first};
+ghost use Rattle.report_text.specs.of_report_lines.Main.{first};
 ghost use Rattle.why_text.specs.Ways.{argument_among, argument_in, argument_to, is_found, lacked_in, leading_from, leading_in, leads, next_cause};
 ghost use Rattle.why_text.specs.Ways.{next_from};
 

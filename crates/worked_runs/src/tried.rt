@@ -1,23 +1,41 @@
-// All files, case by case.
+// Files of cases, case by case.
 
 use crate::case::Case;
 use crate::compared::{are_same, tell_difference};
 use crate::file::{Read, Reading};
 use crate::outcome::outcome_of;
-use std::process::ExitCode;
 use std::rt::{Clock, Files};
 use std::sync::Wait;
 use std::thread::Threads;
 use std::{fs, io};
 
-/// How many cases were tried, and how many of them differ.
+/// How many files were tried, how many cases, and how many of these differ.
 #[derive(Drop)]
-struct Tally {
+pub struct Tally {
+    files: u64,
     cases: u64,
     differ: u64,
 }
 
 impl Tally {
+    /// No file was tried yet.
+    pub fn new() -> Tally {
+        Tally {
+            files: 0,
+            cases: 0,
+            differ: 0,
+        }
+    }
+
+    /// Tells the counts, if a file was tried, and says whether no case differs.
+    pub fn tell<R: Print>(&self, rt: &R) -> io::Result<bool> {
+        let (cases, differ) = (self.cases, self.differ);
+        if self.files > 0 {
+            println!(rt; "{cases} cases, {differ} differ")?;
+        }
+        Ok(differ == 0)
+    }
+
     fn count(&mut self, differs: bool) {
         self.cases = self.cases.saturating_add(1);
         if differs {
@@ -58,11 +76,13 @@ fn tell_bad_line<R: Print>(rt: &R, path: &str, line: &str, tally: &mut Tally) ->
     println!(rt; "{path}: no line of a case: {line}")
 }
 
-fn try_file<R: Files + Print + AllocGlobal + Threads + Wait + Clock + Sync>(
+/// Tries the cases of a file, and names those that differ.
+pub fn try_file<R: Files + Print + AllocGlobal + Threads + Wait + Clock + Sync>(
     rt: &R,
     path: &str,
     tally: &mut Tally,
 ) -> io::Result<()> {
+    tally.files = tally.files.saturating_add(1);
     let text = fs::read_to_string(rt, path)?;
     let mut reading = Reading::new(rt.alloc());
     for line in text.as_str().lines() {
@@ -76,22 +96,4 @@ fn try_file<R: Files + Print + AllocGlobal + Threads + Wait + Clock + Sync>(
         Some(case) => try_case(rt, path, &case, tally),
         None => Ok(()),
     }
-}
-
-/// Tries the cases of each file but the first word, which is the program's own name. Status 1 where a case differs.
-pub fn try_files<R: Files + Print + AllocGlobal + Threads + Wait + Clock + Sync>(
-    rt: &R,
-    words: &[String],
-) -> io::Result<ExitCode> {
-    let mut tally = Tally {
-        cases: 0,
-        differ: 0,
-    };
-    for path in words.iter().skip(1) {
-        try_file(rt, path.as_str(), &mut tally)?;
-    }
-    let Tally { cases, differ } = tally;
-    println!(rt; "{cases} cases, {differ} differ")?;
-    let status = if differ == 0 { 0 } else { 1 };
-    Ok(ExitCode::from(status))
 }

@@ -3,11 +3,11 @@
 ghost use Rattle.std.specs.Prelude.{◌≡◌, OnOk, Some, None};
 ghost use Rattle.protocol.specs.Deliveries.{reached, reached_from_node, reached_from_worker};
 
-use ids::{NodeId, WorkerId};
-use owner_steps::{
+use commit_steps::owner_steps::{
     elsewhere_reached, failed_reached, finished_reached, given_reached, missing_reached,
     where_reached,
 };
+use ids::{NodeId, WorkerId};
 use protocol_data::{Endpoint, Message, WorkerContext};
 use std::alloc::{AllocError, Global};
 use worker_steps::{

@@ -5,9 +5,9 @@ ghost use Rattle.protocol.specs.Tables.{task_of, without_location};
 ghost use Rattle.protocol.specs.Steps.{own_object};
 ghost use Rattle.protocol.specs.Notices.{loses_fetch, loses_locations, moves_ask, moves_asks, with_dead_node};
 
+use commit_steps::owner_steps::{ask_next, missing_reached};
 use ids::{NodeId, ObjectId};
 use number_lists::{object_at_number, remove_node};
-use owner_steps::{ask_next, missing_reached};
 use protocol_data::{Endpoint, ObjectSource, Objects, Phase, Progress, WorkerContext};
 use std::alloc::{AllocError, Global};
 

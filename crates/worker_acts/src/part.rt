@@ -7,8 +7,8 @@ ghost use Rattle.worker_acts.specs.Acts.{act_step};
 use crate::deaths::{notice_node_step, notice_step};
 use crate::messages::reached;
 use crate::ticks::tick_step;
+use commit_steps::{claim_step, commit_step};
 use ids::{NodeId, WorkerId};
-use owner_steps::{claim_step, commit_step};
 use protocol_data::{Endpoint, Message, Outcomes, WorkerContext};
 use std::alloc::{AllocError, Global};
 use worker_steps::release_all;
@@ -21,7 +21,7 @@ pub enum Act {
     /// What was done on its attempt's job is committed.
     Commit(Outcomes),
     /// A message of that sender reaches it.
-    Hear(Endpoint, Message),
+    Receive(Endpoint, Message),
     /// It sends again what it waits for.
     Tick,
     /// It is told that this worker is dead.
@@ -40,7 +40,7 @@ fn step(alloc: Global, here: &mut WorkerContext, act: &Act) -> Result<(), AllocE
             Ok(())
         }
         Act::Commit(outcomes) => commit_step(alloc, here, outcomes),
-        Act::Hear(sender, message) => reached(alloc, here, sender, message),
+        Act::Receive(sender, message) => reached(alloc, here, sender, message),
         Act::Tick => tick_step(alloc, here),
         Act::LearnWorkerDied(worker) => notice_step(alloc, here, *worker),
         Act::LearnNodeDied(node) => notice_node_step(alloc, here, *node),

@@ -6,9 +6,9 @@ ghost use Rattle.protocol.specs.Steps.{own_object};
 ghost use Rattle.protocol.specs.Notices.{breaks_if, breaks_where, runs_on_node, runs_on_worker};
 ghost use Rattle.worker_acts.specs.Dead.{runs_on};
 
+use commit_steps::owner_steps::break_attempt;
 use ids::{NodeId, ObjectId, WorkerId};
 use number_lists::object_at_number;
-use owner_steps::break_attempt;
 use protocol_data::{Endpoint, ObjectSource, Progress, WorkerContext};
 use std::alloc::{AllocError, Global};
 

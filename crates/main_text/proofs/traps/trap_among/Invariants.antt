@@ -1,6 +1,6 @@
 use Rattle.std.proofs.Common.{◌≡◌, drop}
 use Rattle.std.specs.List.{flat_map}
-use Rattle.report_text.specs.Main.{first}
+use Rattle.report_text.specs.of_report_lines.Main.{first}
 use Rattle.main_text.specs.Traps.{trap_in_outcome}
 use Rattle.main_text.proofs.traps.trap_among.Given as goal
 

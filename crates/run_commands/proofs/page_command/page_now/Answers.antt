@@ -1,5 +1,5 @@
 use Rattle.std.proofs.Common.{◌∙◌, ap}
-use Rattle.report_text.specs.Main.{status_of}
+use Rattle.report_text.specs.of_report_lines.Main.{status_of}
 use Rattle.protocol_board.specs.Cores.{RunState}
 use Rattle.run_commands.proofs.Paging.{page_same}
 use Rattle.run_commands.proofs.page_command.page_now.Goals as goal

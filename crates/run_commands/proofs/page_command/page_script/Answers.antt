@@ -13,15 +13,15 @@ returns-clause-made g c =
     let script = script_of c.args.script.now in
     let says = c.args.events.now.says in
     let text = c.args.text.now in
-    IfOk-weaker c.page_now.result (λ m. IsPageIn c.args.cluster c.args.contents c.in-Ok.replay text m.page.items m.status)
+    IfOk-weaker c.page_now-made.result (λ m. IsPageIn c.args.cluster c.args.contents c.in-Ok.replay text m.page.items m.status)
     (λ m. IsPageOf script c.args.cluster c.args.contents says text m.page.items m.status)
     (λ m made. page_so script c.args.cluster c.args.contents says c.in-Ok.replay text m.page.items m.status c.in-Ok.ensures.replayed made)
-    c.page_now.ensures.made
+    c.page_now-made.ensures.made
 
 pub returns-clause-stopped : goal.returns-clause-stopped
 returns-clause-stopped g c =
     let script = script_of c.args.script.now in
     let says = c.args.events.now.says in
     let numbers = c.args.events.now.numbers in
-    IfErr-weaker c.page_now.result (λ r. r ≡ NoMemory) (IsStopOf script c.args.cluster says numbers)
-    (without_memory script c.args.cluster says numbers) c.page_now.ensures.only
+    IfErr-weaker c.page_now-made.result (λ r. r ≡ NoMemory) (IsStopOf script c.args.cluster says numbers)
+    (without_memory script c.args.cluster says numbers) c.page_now-made.ensures.only

@@ -18,6 +18,6 @@ pub returns-in-Err-play_file-clause-stopped : goal.returns-in-Err-play_file-clau
 returns-in-Err-play_file-clause-stopped g c =
     let first : RunState → Play = λ r. record { run = r; jobs = []; applied = 0; sent = []; begun = 0; lines = [] } in
     stopped_so (script_of c.args.script.now) g.S.ScriptName.script c.args.cluster c.args.events.now.says c.args.events.now.numbers
-    (from_first c.new-replay.result) c.new-replay.result c.play_file.new.self c.in-Err-play_file.stopped c.number_of.result c.stop_refusal.result c.requires
+    (from_first c.new-replay.result) c.new-replay.result c.play_file.new.self c.in-Err-play_file.stopped c.number_of.result c.stop_refusal-refusal.result c.requires
     (ap from_first c.new-replay.ensures ∙ sym c.new-replay.ensures) (c.new-replay.ensures ∙ ap first c.in-Ok.ensures)
-    c.in-Err-play_file.ensures.stops (c.number_of.ensures ∙ ap (number_of c.args.events.now.numbers) c.begun.ensures) c.stop_refusal.ensures
+    c.in-Err-play_file.ensures.stops (c.number_of.ensures ∙ ap (number_of c.args.events.now.numbers) c.begun.ensures) c.stop_refusal-refusal.ensures

@@ -20,14 +20,14 @@ returns-clause-reported g c =
     let script = script_of c.args.script.now in
     let form = c.args.form in
     let after = course_of c.drive.new.board c.drive.new.sent in
-    IfOk-weaker c.told.result (λ s. IsToldOf form after.run after.sent c.new-nowhere.result (string_bytes s.text) s.status)
+    IfOk-weaker c.told-told.result (λ s. IsToldOf form after.run after.sent c.new-nowhere.result (string_bytes s.text) s.status)
     (λ s. IsReportOf script c.args.cluster form (string_bytes s.text) s.status)
     (λ s told. run_ends script g.S.ScriptName.script c.args.cluster form (course_of c.new-board.result c.new-sent.result) after c.new-nowhere.result
     (string_bytes s.text) s.status c.requires
     (begins_so c.new-board.result c.new-sent.result c.args.cluster (c.new-board.ensures ∙ c.in-Ok.ensures) c.new-sent.ensures)
-    c.in_default.ensures.ends c.told.ensures.meant c.new-nowhere.ensures told) c.told.ensures.told
+    c.in_default.ensures.ends c.told-told.ensures.meant c.new-nowhere.ensures told) c.told-told.ensures.told
 
 pub returns-clause-stopped : goal.returns-clause-stopped
 returns-clause-stopped g c =
     let script = script_of c.args.script.now in
-    IfErr-weaker c.told.result (λ r. r ≡ NoMemory) (IsRunStop script c.args.cluster) (run_without_memory script c.args.cluster) c.told.ensures.only
+    IfErr-weaker c.told-told.result (λ r. r ≡ NoMemory) (IsRunStop script c.args.cluster) (run_without_memory script c.args.cluster) c.told-told.ensures.only

@@ -14,9 +14,9 @@ returns-clause-told g c =
     let text = c.args.text.now in
     let places = c.args.placed.now.places.items in
     let after = course_of c.drive_so_far.new.board c.drive_so_far.new.sent in
-    IfOk-weaker c.told_of.result (λ s. IsTrapTold script text places c.log.result.now c.args.asked (string_bytes s))
+    IfOk-weaker c.told_of-told.result (λ s. IsTrapTold script text places c.log.result.now c.args.asked (string_bytes s))
     (λ s. IsRunTrap script c.args.cluster text places c.args.asked (string_bytes s))
     (λ s told. run_trap_so script g.S.ScriptName.script c.args.cluster text places c.args.asked (course_of c.new-board.result c.new-sent.result) after
     c.log.result.now (string_bytes s) c.requires
     (begins_so c.new-board.result c.new-sent.result c.args.cluster (c.new-board.ensures ∙ c.in-Ok.ensures) c.new-sent.ensures)
-    c.in_default.ensures.driven c.log.ensures.meant c.log.ensures.log told) c.told_of.ensures.told
+    c.in_default.ensures.driven c.log.ensures.meant c.log.ensures.log told) c.told_of-told.ensures.told

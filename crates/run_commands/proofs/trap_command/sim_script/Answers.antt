@@ -13,7 +13,7 @@ returns-clause-told g c =
     let text = c.args.text.now in
     let places = c.args.placed.now.places.items in
     let logged = c.log.ensures.log ∙ ap (λ (r : RunState). r.log) c.board.ensures in
-    IfOk-weaker c.told_of.result (λ s. IsTrapTold script text places c.log.result.now c.args.asked (string_bytes s))
+    IfOk-weaker c.told_of-told.result (λ s. IsTrapTold script text places c.log.result.now c.args.asked (string_bytes s))
     (λ s. IsReplayTrap script c.args.cluster text places c.args.says.now c.args.asked (string_bytes s))
     (λ s told. replay_trap_so script c.args.cluster text places c.args.says.now c.args.asked c.in-Ok.replay c.log.result.now (string_bytes s)
-    c.in-Ok.ensures.replayed logged told) c.told_of.ensures.told
+    c.in-Ok.ensures.replayed logged told) c.told_of-told.ensures.told

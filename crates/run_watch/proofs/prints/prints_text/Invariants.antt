@@ -1,6 +1,6 @@
 use Rattle.std.proofs.Common.{◌≡◌, string_bytes, take}
 use Rattle.std.specs.List.{flat_map}
-use Rattle.report_text.specs.Main.{print_in}
+use Rattle.report_text.specs.of_report_lines.Main.{print_in}
 use Rattle.run_watch.proofs.prints.prints_text.Given as goal
 
 abbrev pub invariant-loop-entry : goal.invariant-loop-entry

@@ -1,5 +1,5 @@
 use Rattle.std.proofs.Common.{string_bytes}
-use Rattle.state_text.proofs.Writing.{three}
+use Rattle.holder_text.proofs.Writing.{three}
 use Rattle.state_text.proofs.objects.write_placed.Goals as goal
 
 pub returns : goal.returns

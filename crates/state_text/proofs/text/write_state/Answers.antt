@@ -3,7 +3,7 @@ use Rattle.state_text.specs.Nodes.{nodes_text}
 use Rattle.state_text.specs.Objects.{all_objects_text}
 use Rattle.state_text.specs.Text.{head_text, state_text}
 use Rattle.state_text.specs.Workers.{workers_text}
-use Rattle.state_text.proofs.Writing.{four}
+use Rattle.holder_text.proofs.Writing.{four}
 use Rattle.state_text.proofs.text.write_state.Goals as goal
 
 pub returns : goal.returns

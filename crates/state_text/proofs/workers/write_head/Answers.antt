@@ -1,5 +1,5 @@
 use Rattle.std.proofs.Common.{string_bytes}
-use Rattle.state_text.proofs.Writing.{two}
+use Rattle.holder_text.proofs.Writing.{two}
 use Rattle.state_text.proofs.workers.write_head.Goals as goal
 
 pub returns : goal.returns

@@ -1,6 +1,6 @@
 use Rattle.std.proofs.Common.{◌≡◌, ◌+◌, ◌≤◌, drop}
 use Rattle.log_words.specs.Index.{IsIndexOf}
-use Rattle.report_text.specs.Attempts.{AreStatesOf}
+use Rattle.report_text.specs.of_report_lines.Attempts.{AreStatesOf}
 use Rattle.summary_text.specs.Columns.{column_count}
 use Rattle.summary_text.proofs.columns.column_count.Given as goal
 

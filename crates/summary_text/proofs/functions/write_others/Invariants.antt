@@ -1,5 +1,5 @@
 use Rattle.std.proofs.Common.{◌≡◌, ◌++◌, string_bytes}
-use Rattle.report_text.specs.Attempts.{AreStatesOf}
+use Rattle.report_text.specs.of_report_lines.Attempts.{AreStatesOf}
 use Rattle.log_words.specs.Index.{IsIndexOf}
 use Rattle.summary_text.specs.Below.{below}
 use Rattle.summary_text.specs.Functions.{function_at}

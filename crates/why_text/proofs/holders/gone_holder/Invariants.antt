@@ -1,7 +1,7 @@
 use Rattle.std.proofs.Common.{◌≡◌, drop}
 use Rattle.std.specs.List.{flat_map}
 use Rattle.event_log.specs.Words.{births}
-use Rattle.report_text.specs.Main.{first}
+use Rattle.report_text.specs.of_report_lines.Main.{first}
 use Rattle.log_words.specs.Index.{IsIndexOf}
 use Rattle.why_text.specs.Holders.{gone_in}
 use Rattle.why_text.proofs.holders.gone_holder.Given as goal

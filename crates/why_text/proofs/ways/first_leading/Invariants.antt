@@ -1,6 +1,6 @@
 use Rattle.std.proofs.Common.{◌≡◌, drop}
 use Rattle.std.specs.List.{filter}
-use Rattle.report_text.specs.Main.{first}
+use Rattle.report_text.specs.of_report_lines.Main.{first}
 use Rattle.why_text.specs.Ways.{leads}
 use Rattle.why_text.proofs.ways.first_leading.Given as goal
 

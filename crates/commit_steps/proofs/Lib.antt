@@ -1,0 +1,4 @@
+pub mod Adding
+pub mod Borne
+pub mod Contents
+pub mod LogLaws

@@ -1,0 +1,203 @@
+// A commit: what a job came to.
+
+ghost use Rattle.std.specs.Prelude.{◌≡◌, ◌+◌, ◌++◌, IfOk, OnOk, Some, None};
+ghost use Rattle.protocol.specs.Steps.{with_run};
+ghost use Rattle.protocol.specs.Tables.{Out};
+ghost use Rattle.protocol.specs.Commits.{asks_where, claim_step, commit_step, ends, keeps_content, keeps_contents, needs, rests_if_waiting, stops, with_outcomes};
+ghost use Rattle.protocol_data.specs.declared.tables.Execution.{Execution};
+
+use crate::births::{bear_all, next_id};
+use crate::logged::log_outcomes;
+use held::{Births, Printed, Prints, SharedBirth, SharedContent};
+use ids::ObjectId;
+use object_store::put_end;
+use owner_steps::{id_behind, need_own};
+use protocol_data::{Message, Outcomes, Phase, Stopped, WorkerContext, copy_contents};
+use sequence::Seq;
+use std::alloc::{AllocError, Global};
+use values::{Fault, FaultKind};
+use worker_steps::{
+    fault, give_slot_back, hold_ids, ids_in_content, is_own, is_waiting_for, knows_dead,
+    leave_if_free, pass_on, say, set_phase,
+};
+
+// ---- stops
+
+/// The location of the object is looked for.
+fn ask_where(alloc: Global, here: &mut WorkerContext, object: ObjectId) -> Result<(), AllocError>
+    ensures { OnOk result (here.new ≡ asks_where here.old object) }
+{
+    if is_own(here, object) {
+        return need_own(alloc, here, object);
+    }
+    if knows_dead(&here.worker, object.owner) {
+        let kind = FaultKind::OwnerDied;
+        return fault(alloc, here, Fault { kind, object });
+    }
+    say(here, object.owner, Message::Where(object))
+}
+
+/// Unless it was answered at once, the attempt gives its slot back.
+fn rest_if_waiting(
+    alloc: Global,
+    here: &mut WorkerContext,
+    object: ObjectId,
+) -> Result<(), AllocError>
+    ensures { OnOk result (here.new ≡ rests_if_waiting here.old object) }
+{
+    if is_waiting_for(&here.worker, object) {
+        return give_slot_back(alloc, here);
+    }
+    Ok(())
+}
+
+/// The attempt needs an object: it waits, unless it is answered at once.
+fn need(alloc: Global, here: &mut WorkerContext, object: ObjectId) -> Result<(), AllocError>
+    ensures { (run : Execution) → here.old.worker.run ≡ Some run → OnOk result (here.new ≡ needs here.old run object) }
+{
+    set_phase(here, Phase::Waits(object, None));
+    ask_where(alloc, here, object)?;
+    rest_if_waiting(alloc, here, object)
+}
+
+/// The content of the object by the attempt of that number goes into the node's store, unless it is small, and the object holds the ids in it.
+fn keep_content(
+    alloc: Global,
+    here: &mut WorkerContext,
+    object: ObjectId,
+    number: u32,
+    content: &SharedContent,
+) -> Result<(), AllocError>
+    ensures { OnOk result (here.new ≡ keeps_content here.old object number content.now) }
+{
+    let ids = ids_in_content(alloc, content)?;
+    let stored = content.copy(alloc)?;
+    put_end(&mut here.there.node.store, object, number, stored)?;
+    pass_on(here, object, &ids)?;
+    hold_ids(here, object, &ids)
+}
+
+/// So each of these, which are of the object and of those behind it.
+#[tactic(auto, using(crate::proofs::Contents::first_kept))]
+fn keep_contents(
+    alloc: Global,
+    here: &mut WorkerContext,
+    object: ObjectId,
+    number: u32,
+    contents: &[SharedContent],
+) -> Result<(), AllocError>
+    ensures { OnOk result (here.new ≡ keeps_contents here.old object number contents.now) }
+{
+    for i in 0..contents.len() {
+        let result = id_behind(alloc, object, i as u64)?;
+        keep_content(alloc, here, result, number, &contents[i])?;
+    }
+    Ok(())
+}
+
+/// The attempt ends, with a content for each result.
+fn end(
+    alloc: Global,
+    here: &mut WorkerContext,
+    contents: &Seq<SharedContent>,
+) -> Result<(), AllocError>
+    ensures { (run : Execution) → here.old.worker.run ≡ Some run → OnOk result (here.new ≡ ends here.old run contents.now) }
+{
+    let Some(run) = &here.worker.run else {
+        return Ok(());
+    };
+    let attempt = run.attempt;
+    let kept = copy_contents(contents, alloc)?;
+    set_phase(here, Phase::HasEnded(kept));
+    keep_contents(
+        alloc,
+        here,
+        attempt.object,
+        attempt.number,
+        contents.as_slice(),
+    )?;
+    leave_if_free(alloc, here)?;
+    give_slot_back(alloc, here)
+}
+
+/// The attempt stops there.
+fn stop(alloc: Global, here: &mut WorkerContext, stop: &Stopped) -> Result<(), AllocError>
+    ensures { OnOk result (here.new ≡ stops here.old stop.now) }
+{
+    if here.worker.run.is_none() {
+        return Ok(());
+    }
+    match stop {
+        Stopped::AtGet(object) => need(alloc, here, *object),
+        Stopped::AtEnd(contents) => end(alloc, here, contents),
+    }
+}
+
+// ---- the commit
+
+/// Adds copies of the births.
+fn add_births(alloc: Global, births: &mut Births, more: &Seq<SharedBirth>) -> Result<(), AllocError>
+    ensures { OnOk result (births.new ≡ births.old ++ more.now) }
+{
+    for birth in &more.items {
+        births.push(alloc, birth.copy(alloc)?)?;
+    }
+    Ok(())
+}
+
+/// Adds copies of the prints.
+fn add_prints(alloc: Global, prints: &mut Prints, more: &Seq<Printed>) -> Result<(), AllocError>
+    ensures { OnOk result (prints.new ≡ prints.old ++ more.now) }
+{
+    for value in &more.items {
+        prints.push(alloc, value.copy(alloc)?)?;
+    }
+    Ok(())
+}
+
+/// What was done is added to what the attempt did.
+fn add_outcomes(
+    alloc: Global,
+    here: &mut WorkerContext,
+    outcomes: &Outcomes,
+) -> Result<(), AllocError>
+    ensures { (run : Execution) → here.old.worker.run ≡ Some run → OnOk result (here.new ≡ with_run here.old (with_outcomes run outcomes.now)) }
+{
+    if let Some(run) = &mut here.worker.run {
+        add_births(alloc, &mut run.births, &outcomes.births)?;
+        add_prints(alloc, &mut run.prints, &outcomes.prints)?;
+        run.phase = Phase::Ready;
+        return Ok(());
+    }
+    Ok(())
+}
+
+/// What was done on the attempt's job is committed. Its births, prints and end are logged; each birth enters the table, holds the ids in it, and
+/// is stored or asked for; then the attempt waits for what it needs, unless it is answered at once, or stores each content with which it ends,
+/// unless that is small.
+pub fn commit_step(
+    alloc: Global,
+    here: &mut WorkerContext,
+    outcomes: &Outcomes,
+) -> Result<(), AllocError>
+    ensures { OnOk result (here.new ≡ commit_step here.old outcomes.now) }
+{
+    let Some(run) = &here.worker.run else {
+        return Ok(());
+    };
+    let attempt = run.attempt;
+    let first = next_id(here);
+    add_outcomes(alloc, here, outcomes)?;
+    log_outcomes(alloc, here, attempt, first, outcomes)?;
+    bear_all(alloc, here, attempt, &outcomes.births)?;
+    stop(alloc, here, &outcomes.stop)
+}
+
+/// The worker's attempt is given out as that job; nothing but its phase changes.
+pub fn claim_step(here: &mut WorkerContext, job: u64)
+    ensures { here.new ≡ claim_step here.old job }
+{
+    if here.worker.run.is_some() {
+        set_phase(here, Phase::Out(job));
+    }
+}

@@ -1,7 +1,0 @@
-use Rattle.std.proofs.Common.{◌≡◌, ◌++◌, string_bytes}
-use Rattle.log_words.proofs.Cutting.{from_place}
-use Rattle.log_words.proofs.cut.+write_cut.Given as goal
-
--- the text so far with the items from the place on
-abbrev pub invariant-loop-place : goal.invariant-loop-place
-invariant-loop-place l = string_bytes l.text ++ from_place l.item-items l.place ≡ string_bytes l.initial.text ++ from_place l.item-items 0

@@ -1,0 +1,18 @@
+//! The lines of a report: what was printed, how main and the other attempts went on, what became of objects, and which
+//! events were refused.
+#![tactic(auto)]
+
+mod attempts;
+mod faults;
+pub mod main_end;
+mod objects;
+mod prints;
+mod refusals;
+
+pub use attempts::{AttemptStates, write_attempts};
+pub use faults::kind_name;
+pub use log_entries;
+pub use main_end::{status_of, write_main};
+pub use objects::{write_releases, write_resolves};
+pub use prints::write_prints;
+pub use refusals::{last_event, write_refusals};

@@ -1,0 +1,51 @@
+// The report's sections of objects: those with a fault, and those released.
+
+ghost use Rattle.std.specs.Prelude.{◌≡◌, ◌++◌, OnOk, string_bytes};
+ghost use Rattle.std.specs.List.{flat_map};
+ghost use Rattle.report_lines.specs.Objects.{resolve_in, release_in};
+
+use crate::faults::write_fault;
+use log_entries::Entry;
+use std::alloc::AllocError;
+
+/// Writes `resolved o1.2 PutLost o1.1` where the entry is a resolve.
+fn write_resolve(text: &mut String, entry: &Entry) -> Result<(), AllocError>
+    ensures { OnOk result (string_bytes text.new ≡ string_bytes text.old ++ resolve_in entry.now) }
+{
+    let Entry::Resolved { object, fault } = entry else {
+        return Ok(());
+    };
+    write!(text, "resolved {object} ")?;
+    write_fault(text, *fault)?;
+    text.push_str("\n")
+}
+
+/// Writes a line for each resolve of the log.
+pub fn write_resolves(text: &mut String, log: &[Entry]) -> Result<(), AllocError>
+    ensures { OnOk result (string_bytes text.new ≡ string_bytes text.old ++ flat_map resolve_in log.now) }
+{
+    for entry in log {
+        write_resolve(text, entry)?;
+    }
+    Ok(())
+}
+
+/// Writes `released o1.2` where the entry is a release.
+fn write_release(text: &mut String, entry: &Entry) -> Result<(), AllocError>
+    ensures { OnOk result (string_bytes text.new ≡ string_bytes text.old ++ release_in entry.now) }
+{
+    let Entry::Released(object) = entry else {
+        return Ok(());
+    };
+    writeln!(text, "released {object}")
+}
+
+/// Writes a line for each release of the log.
+pub fn write_releases(text: &mut String, log: &[Entry]) -> Result<(), AllocError>
+    ensures { OnOk result (string_bytes text.new ≡ string_bytes text.old ++ flat_map release_in log.now) }
+{
+    for entry in log {
+        write_release(text, entry)?;
+    }
+    Ok(())
+}

@@ -1,0 +1,43 @@
+// The report's last section: a line for each event that was refused.
+
+ghost use Rattle.std.specs.Prelude.{◌≡◌, ◌++◌, OnOk, None, string_bytes};
+ghost use Rattle.report_lines.specs.Refusals.{last_in, refused_in, refused_lines};
+
+use log_entries::{Entry, Event};
+use std::alloc::AllocError;
+
+/// The last event of a log, after one more entry.
+pub fn last_event(last: Option<Event>, entry: &Entry) -> Option<Event>
+    ensures { result ≡ last_in last entry.now }
+{
+    match entry {
+        Entry::In { event, .. } => Some(*event),
+        _ => last,
+    }
+}
+
+/// Writes `refused 30 kill 2` where the entry is a refusal, of the last event before it.
+fn write_refusal(text: &mut String, last: &Option<Event>, entry: &Entry) -> Result<(), AllocError>
+    ensures { OnOk result (string_bytes text.new ≡ string_bytes text.old ++ refused_in last.now entry.now) }
+{
+    let Entry::Refused(refusal) = entry else {
+        return Ok(());
+    };
+    let code = refusal.number();
+    match last {
+        Some(event) => writeln!(text, "refused {code} {event}"),
+        None => writeln!(text, "refused {code}"),
+    }
+}
+
+/// Writes a line for each refusal of the log.
+pub fn write_refusals(text: &mut String, log: &[Entry]) -> Result<(), AllocError>
+    ensures { OnOk result (string_bytes text.new ≡ string_bytes text.old ++ refused_lines None log.now) }
+{
+    let mut last = None;
+    for entry in log {
+        write_refusal(text, &last, entry)?;
+        last = last_event(last, entry);
+    }
+    Ok(())
+}

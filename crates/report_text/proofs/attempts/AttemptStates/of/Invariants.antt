@@ -1,6 +1,0 @@
-use Rattle.std.proofs.Common.{take}
-use Rattle.report_text.specs.Attempts.{AreStatesOf}
-use Rattle.report_text.proofs.attempts.AttemptStates.of.Given as goal
-
-abbrev pub invariant-loop-entry : goal.invariant-loop-entry
-invariant-loop-entry l = AreStatesOf l.states (take l.entry-index l.log)

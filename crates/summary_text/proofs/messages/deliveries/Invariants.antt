@@ -1,9 +1,0 @@
-use Rattle.std.proofs.Common.{◌≡◌, ◌+◌, ◌≤◌, drop}
-use Rattle.summary_text.specs.Messages.{deliveries}
-use Rattle.summary_text.proofs.messages.deliveries.Given as goal
-
-abbrev pub invariant-loop-place : goal.invariant-loop-place
-invariant-loop-place l = record {
-  found : l.count + deliveries l.kind l.envelopes (drop l.place l.log) ≡ deliveries l.kind l.envelopes l.log;
-  few : l.count ≤ l.place;
-}

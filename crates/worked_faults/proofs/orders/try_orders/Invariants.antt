@@ -1,5 +1,0 @@
-use Rattle.script_check.specs.Trees.{script_of}
-use Rattle.worked_faults.proofs.orders.try_orders.Given as goal
-
-abbrev pub ghosts-count_alike : goal.ghosts-count_alike
-ghosts-count_alike g a = record { script = script_of a.script.now }

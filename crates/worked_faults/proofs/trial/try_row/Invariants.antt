@@ -1,5 +1,0 @@
-use Rattle.script_check.specs.Trees.{script_of}
-use Rattle.worked_faults.proofs.trial.try_row.Given as goal
-
-abbrev pub ghosts-try_script : goal.ghosts-try_script
-ghosts-try_script g a = record { script = script_of a.script.now }

@@ -1,4 +1,4 @@
-// What a node does in a whole run: taken out, told or handed a message, and put back.
+// What a node does in a whole run: taken out, told or handed a message, and put back; where there is no memory, a call of `drop` lets go of it.
 
 ghost use Rattle.std.specs.Prelude.{◌≡◌, OnOk, IfOk};
 ghost use Rattle.protocol.specs.Slots.{forgets, node_reached};
@@ -28,8 +28,13 @@ pub fn deliver_to_node(
         return Ok(Seq::new(alloc));
     };
     let mut there = take_node(alloc, whole, place, number);
-    node_reached(alloc, &mut there, sender, message)?;
-    put_node(alloc, whole, place, number, there)
+    match node_reached(alloc, &mut there, sender, message) {
+        Ok(()) => put_node(alloc, whole, place, number, there),
+        Err(error) => {
+            drop(there);
+            Err(error)
+        }
+    }
 }
 
 /// The node of that number is told that its worker is dead. The entries that this adds are given back.
@@ -46,6 +51,11 @@ pub fn forget_at_node(
         return Ok(Seq::new(alloc));
     };
     let mut there = take_node(alloc, whole, place, number);
-    killed(alloc, &mut there, worker)?;
-    put_node(alloc, whole, place, number, there)
+    match killed(alloc, &mut there, worker) {
+        Ok(()) => put_node(alloc, whole, place, number, there),
+        Err(error) => {
+            drop(there);
+            Err(error)
+        }
+    }
 }

@@ -103,12 +103,33 @@ fn write_worker_told(
 {
     let envelopes = whole.network.as_slice();
     let subject = Subject::of(alloc, log, worker)?;
-    write_worker_sentences(
+    let written = write_worker_sentences(
         alloc, text, contents, index, log, lines, envelopes, &subject,
-    )
+    );
+    drop(subject);
+    written
 }
 
 #[tactic(auto, unfolding(crate::specs::Text::worker_account))]
+fn write_worker_account_by(
+    alloc: Global,
+    text: &mut String,
+    contents: Contents,
+    index: &BirthIndex,
+    log: &[Entry],
+    lines: &[usize],
+    whole: &ClusterState,
+    worker: WorkerId,
+) -> Result<(), AllocError>
+    requires { IsIndexOf index.now log.now }
+    ensures { OnOk result (string_bytes text.new ≡ string_bytes text.old ++ worker_account contents log.now lines.now whole.now worker) }
+{
+    write_unopened(alloc, text, log, worker)?;
+    write_worker_told(alloc, text, contents, index, log, lines, whole, worker)?;
+    write_owned(alloc, text, contents, log, worker)?;
+    write_present(alloc, text, contents, index, log, lines, whole, worker)
+}
+
 fn write_worker_account(
     alloc: Global,
     text: &mut String,
@@ -121,10 +142,9 @@ fn write_worker_account(
     ensures { OnOk result (string_bytes text.new ≡ string_bytes text.old ++ worker_account contents log.now lines.now whole.now worker) }
 {
     let index = BirthIndex::of(alloc, log)?;
-    write_unopened(alloc, text, log, worker)?;
-    write_worker_told(alloc, text, contents, &index, log, lines, whole, worker)?;
-    write_owned(alloc, text, contents, log, worker)?;
-    write_present(alloc, text, contents, &index, log, lines, whole, worker)
+    let written = write_worker_account_by(alloc, text, contents, &index, log, lines, whole, worker);
+    drop(index);
+    written
 }
 
 /// Why a worker is as it is, in sentences, in the order of the log: on which node it was opened and for which attempt, the attempts that it ran and
@@ -184,6 +204,26 @@ fn write_node_sentences(
     Ok(())
 }
 
+/// Writes how the node came, and what the log, of which that is the index, says of it.
+fn write_node_told_by(
+    alloc: Global,
+    text: &mut String,
+    contents: Contents,
+    index: &BirthIndex,
+    log: &[Entry],
+    lines: &[usize],
+    whole: &ClusterState,
+    site: &Site,
+) -> Result<(), AllocError>
+    requires { IsIndexOf index.now log.now }
+    ensures { OnOk result (string_bytes text.new ≡ string_bytes text.old
+        ++ node_told contents log.now lines.now whole.now (nodes.seen_of site.now)) }
+{
+    let envelopes = whole.network.as_slice();
+    write_first_note(text, log, site)?;
+    write_node_sentences(alloc, text, contents, index, log, lines, envelopes, site)
+}
+
 /// Writes how the node came, and what the log says of it.
 fn write_node_told(
     alloc: Global,
@@ -198,9 +238,9 @@ fn write_node_told(
         ++ node_told contents log.now lines.now whole.now (nodes.seen_of site.now)) }
 {
     let index = BirthIndex::of(alloc, log)?;
-    let envelopes = whole.network.as_slice();
-    write_first_note(text, log, site)?;
-    write_node_sentences(alloc, text, contents, &index, log, lines, envelopes, site)
+    let written = write_node_told_by(alloc, text, contents, &index, log, lines, whole, site);
+    drop(index);
+    written
 }
 
 #[tactic(auto, unfolding(crate::specs::Text::node_account))]
@@ -219,7 +259,9 @@ fn write_node_account(
         return write_no_node(text, node);
     }
     let site = Site::of(alloc, log, whole.nodes.len(), node)?;
-    write_node_told(alloc, text, contents, log, lines, whole, &site)
+    let written = write_node_told(alloc, text, contents, log, lines, whole, &site);
+    drop(site);
+    written
 }
 
 /// Why a node is as it is, in sentences, in the order of the log: when it came, the workers that it opened and for what, the deaths of these, the

@@ -1,1 +1,2 @@
 pub mod Replays
+pub use Rattle.protocol_board.specs as of_protocol_board

@@ -4,8 +4,8 @@
 ghost use Rattle.std.specs.Prelude.{◌≡◌};
 ghost use Rattle.script_check.specs.Trees.{script_of};
 
-use protocol_board::Board;
-use run_core::{Cluster, Core, Entry, Event, Refusal, Reply};
+use log_entries::{Entry, Event, Refusal};
+use protocol_board::{Board, Cluster, Core, Reply};
 use script_check::{CheckError, check};
 use script_syntax::{SyntaxError, parse};
 use segment::{Compiled, Job, NoMemory, ScriptName};

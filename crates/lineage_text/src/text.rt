@@ -2,6 +2,8 @@
 
 ghost use Rattle.std.specs.Prelude.{◌≡◌, ◌++◌, IfOk, OnOk, string_bytes};
 ghost use Rattle.std.specs.List.{flat_map};
+ghost use Rattle.report_text.specs.of_report_lines.Attempts.{AreStatesOf};
+ghost use Rattle.log_words.specs.Index.{IsIndexOf};
 ghost use Rattle.lineage_text.specs.Entries.{lineage_in};
 ghost use Rattle.lineage_text.specs.Text.{graph_head, lineage_text};
 
@@ -20,6 +22,40 @@ fn write_head(text: &mut String) -> Result<(), AllocError>
     )
 }
 
+fn write_each(
+    alloc: Global,
+    text: &mut String,
+    contents: Contents,
+    states: &AttemptStates,
+    index: &BirthIndex,
+    log: &[Entry],
+) -> Result<(), AllocError>
+    requires states { AreStatesOf states.now log.now }
+    requires index { IsIndexOf index.now log.now }
+    ensures { OnOk result (string_bytes text.new ≡ string_bytes text.old ++ flat_map (lineage_in contents log.now) log.now) }
+{
+    for entry in log {
+        write_entry(alloc, text, contents, states, index, log, entry)?;
+    }
+    Ok(())
+}
+
+fn write_with_states(
+    alloc: Global,
+    text: &mut String,
+    contents: Contents,
+    states: &AttemptStates,
+    log: &[Entry],
+) -> Result<(), AllocError>
+    requires { AreStatesOf states.now log.now }
+    ensures { OnOk result (string_bytes text.new ≡ string_bytes text.old ++ flat_map (lineage_in contents log.now) log.now) }
+{
+    let index = BirthIndex::of(alloc, log)?;
+    let written = write_each(alloc, text, contents, states, &index, log);
+    drop(index);
+    written
+}
+
 fn write_entries(
     alloc: Global,
     text: &mut String,
@@ -29,11 +65,9 @@ fn write_entries(
     ensures { OnOk result (string_bytes text.new ≡ string_bytes text.old ++ flat_map (lineage_in contents log.now) log.now) }
 {
     let states = AttemptStates::of(alloc, log)?;
-    let index = BirthIndex::of(alloc, log)?;
-    for entry in log {
-        write_entry(alloc, text, contents, &states, &index, log, entry)?;
-    }
-    Ok(())
+    let written = write_with_states(alloc, text, contents, &states, log);
+    drop(states);
+    written
 }
 
 /// What the objects of a log are made of, as a graph in Graphviz's language DOT, main's own object with them: a box for each

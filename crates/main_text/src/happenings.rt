@@ -15,7 +15,7 @@ use std::alloc::AllocError;
 use why_text::{Moment, write_when};
 
 /// What may happen in a run.
-#[derive(Clone, Copy, PartialEq, Eq, Debug)]
+#[derive(Clone, Copy)]
 pub enum Happening {
     /// The attempt begins on a worker.
     Begins(AttemptId),

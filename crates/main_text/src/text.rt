@@ -1,6 +1,6 @@
 // Why main ended as it did, or for what it waits.
 
-ghost use Rattle.std.specs.Prelude.{◌≡◌, ◌++◌, IfOk, OnOk, length, option_copied, string_bytes};
+ghost use Rattle.std.specs.Prelude.{◌≡◌, ◌++◌, IfOk, OnOk, codes, length, option_copied, string_bytes};
 ghost use Rattle.std.specs.Option.{option_map};
 ghost use Rattle.values.specs.Values.{content_of};
 ghost use Rattle.event_log.specs.Entries.{main_attempt};
@@ -89,6 +89,23 @@ fn write_main_traps(
     write_traps(text, contents, index, whole, log, lines, most, attempt)
 }
 
+/// Writes an empty line, and where the trap with which main ended comes from.
+fn write_traps_below(
+    text: &mut String,
+    contents: Contents,
+    index: &BirthIndex,
+    log: &[Entry],
+    lines: &[usize],
+    whole: &ClusterState,
+) -> Result<(), AllocError>
+    requires { IsIndexOf index.now log.now }
+    ensures { OnOk result (string_bytes text.new ≡ string_bytes text.old ++ codes "\n"
+        ++ traps_text contents whole.now.jobs log.now lines.now (length log.now) main_attempt) }
+{
+    text.push_str("\n")?;
+    write_main_traps(text, contents, index, log, lines, whole)
+}
+
 /// Writes where the trap with which main ended comes from.
 fn write_source(
     alloc: Global,
@@ -106,10 +123,30 @@ fn write_source(
         Content::Value(_) => Ok(()),
         Content::Trap(_) => {
             let index = BirthIndex::of(alloc, log)?;
-            text.push_str("\n")?;
-            write_main_traps(text, contents, &index, log, lines, whole)
+            let written = write_traps_below(text, contents, &index, log, lines, whole);
+            drop(index);
+            written
         }
     }
+}
+
+fn write_links_by(
+    alloc: Global,
+    text: &mut String,
+    contents: Contents,
+    index: &BirthIndex,
+    log: &[Entry],
+    lines: &[usize],
+    whole: &ClusterState,
+) -> Result<(), AllocError>
+    requires { IsIndexOf index.now log.now }
+    ensures { OnOk result
+        (string_bytes text.new ≡ string_bytes text.old ++ links_text contents log.now lines.now whole.now (links whole.now)) }
+{
+    let links = links(alloc, whole)?;
+    let written = write_links(alloc, text, contents, index, log, lines, whole, &links);
+    drop(links);
+    written
 }
 
 fn write_all_links(
@@ -124,8 +161,9 @@ fn write_all_links(
         (string_bytes text.new ≡ string_bytes text.old ++ links_text contents log.now lines.now whole.now (links whole.now)) }
 {
     let index = BirthIndex::of(alloc, log)?;
-    let links = links(alloc, whole)?;
-    write_links(alloc, text, contents, &index, log, lines, whole, &links)
+    let written = write_links_by(alloc, text, contents, &index, log, lines, whole);
+    drop(index);
+    written
 }
 
 /// Writes for what main waits.

@@ -263,7 +263,9 @@ fn conflict(alloc: Global, request: &Request<'_>) -> Result<Error, AllocError>
     ensures { IfOk result (λ e. kind_of e ≡ ArgumentConflict) }
 {
     let mut command = conflicting(alloc, request)?;
-    command.error(ErrorKind::ArgumentConflict, conflict_words(request))
+    let error = command.error(ErrorKind::ArgumentConflict, conflict_words(request));
+    drop(command);
+    error
 }
 
 /// Reads the words of the command line, of which the first is the program's name. Where the words are at fault, ask for help or the

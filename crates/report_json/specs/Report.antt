@@ -1,7 +1,7 @@
 -- The report of a log as JSON.
 use Rattle.std.specs.Prelude.{List, None, codes}
 use Rattle.std.specs.List.{flat_map}
-use Rattle.serde_json.specs.Data.{Data, array, object, member, no_members}
+use Rattle.serde_json.specs.Data.{Data, Members, array, object, member, no_members, put as with_member}
 use Rattle.serde_json.specs.View.{items_of}
 use Rattle.event_log.specs.Entries.{Entry}
 use Rattle.report_text.specs.of_report_lines.Main.{main_end, main_fault}
@@ -19,3 +19,13 @@ report_data log =
     (member (codes "refused") (array (items_of (refused_data None log)))
     (member (codes "released") (array (items_of (flat_map release_in log)))
     (member (codes "resolved") (array (items_of (flat_map resolve_in log))) no_members))))))
+
+-- members with these sections, each in place of one with its key
+abbrev pub with_sections : List Entry → Members → Members
+with_sections log ms =
+    with_member (codes "resolved") (array (items_of (flat_map resolve_in log)))
+    (with_member (codes "released") (array (items_of (flat_map release_in log)))
+    (with_member (codes "refused") (array (items_of (refused_data None log)))
+    (with_member (codes "prints") (array (items_of (flat_map print_in log)))
+    (with_member (codes "main") (main_data (main_end log) (main_fault log))
+    (with_member (codes "attempts") (array (items_of (flat_map (attempt_in log) log))) ms)))))

@@ -56,14 +56,39 @@ fn add_attempt(
     Ok(())
 }
 
+fn add_attempts(
+    alloc: Global,
+    all: &mut Vec<Value>,
+    states: &AttemptStates,
+    log: &[Entry],
+) -> Result<(), AllocError>
+    requires { AreStatesOf states.now log.now }
+    ensures { OnOk result (map view all.new.items ≡ map view all.old.items ++ flat_map (attempt_in log.now) log.now) }
+{
+    for entry in log {
+        add_attempt(alloc, all, states, entry)?;
+    }
+    Ok(())
+}
+
+fn attempt_values(alloc: Global, log: &[Entry]) -> Result<Vec<Value>, AllocError>
+    ensures { IfOk result (λ all. map view all.items ≡ flat_map (attempt_in log.now) log.now) }
+{
+    let states = AttemptStates::of(alloc, log)?;
+    let mut all = Vec::new(alloc);
+    let added = add_attempts(alloc, &mut all, &states, log);
+    drop(states);
+    if let Err(failed) = added {
+        drop(all);
+        return Err(failed);
+    }
+    Ok(all)
+}
+
 /// The attempts but main's, in the order of their beginnings.
 pub fn attempts_json(alloc: Global, log: &[Entry]) -> Result<Value, AllocError>
     ensures { IfOk result (λ v. view v ≡ array (items_of (flat_map (attempt_in log.now) log.now))) }
 {
-    let states = AttemptStates::of(alloc, log)?;
-    let mut all = Vec::new(alloc);
-    for entry in log {
-        add_attempt(alloc, &mut all, &states, entry)?;
-    }
+    let all = attempt_values(alloc, log)?;
     Ok(array_of(all))
 }

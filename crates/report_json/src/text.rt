@@ -1,35 +1,43 @@
 // The whole report as one line of JSON.
 
-ghost use Rattle.std.specs.Prelude.{◌≡◌, ◌++◌, IfOk, codes, string_bytes};
-ghost use Rattle.serde_json.specs.View.{view};
+ghost use Rattle.std.specs.Prelude.{◌≡◌, ◌++◌, IfOk, OnOk, codes, string_bytes};
+ghost use Rattle.serde_json.specs.View.{members_view, view};
 ghost use Rattle.serde_json.specs.Written.{compact_text};
-ghost use Rattle.report_json.specs.Report.{report_data};
+ghost use Rattle.report_json.specs.Report.{report_data, with_sections};
 
 use crate::attempts::attempts_json;
 use crate::entries::{prints_json, releases_json, resolves_json};
 use crate::main_end::main_json;
 use crate::refusals::refusals_json;
 use log_entries::Entry;
-use serde_json::{Value, json};
+use serde_json::{Map, Value, put};
 use std::alloc::{AllocError, Global};
+
+/// Adds the sections of the report, by their keys.
+fn add_sections(
+    alloc: Global,
+    sections: &mut Map<String, Value>,
+    log: &[Entry],
+) -> Result<(), AllocError>
+    ensures { OnOk result (members_view sections.new.entries ≡ with_sections log.now (members_view sections.old.entries)) }
+{
+    put(sections, alloc, "attempts", attempts_json(alloc, log)?)?;
+    put(sections, alloc, "main", main_json(alloc, log)?)?;
+    put(sections, alloc, "prints", prints_json(alloc, log)?)?;
+    put(sections, alloc, "refused", refusals_json(alloc, log)?)?;
+    put(sections, alloc, "released", releases_json(alloc, log)?)?;
+    put(sections, alloc, "resolved", resolves_json(alloc, log)?)
+}
 
 fn report_value(alloc: Global, log: &[Entry]) -> Result<Value, AllocError>
     ensures { IfOk result (λ v. view v ≡ report_data log.now) }
 {
-    let attempts = attempts_json(alloc, log)?;
-    let main = main_json(alloc, log)?;
-    let prints = prints_json(alloc, log)?;
-    let refused = refusals_json(alloc, log)?;
-    let released = releases_json(alloc, log)?;
-    let resolved = resolves_json(alloc, log)?;
-    json!(in alloc; {
-        "attempts": attempts,
-        "main": main,
-        "prints": prints,
-        "refused": refused,
-        "released": released,
-        "resolved": resolved
-    })
+    let mut sections = Map::new(alloc);
+    if let Err(failed) = add_sections(alloc, &mut sections, log) {
+        drop(sections);
+        return Err(failed);
+    }
+    Ok(Value::Object(sections))
 }
 
 fn compact(alloc: Global, log: &[Entry]) -> Result<String, AllocError>

@@ -3,7 +3,7 @@ use Rattle.std.proofs.Common.{◌≡◌, ◌∙◌, ℕ, List, ap}
 use Rattle.event_log.specs.Entries.{Entry}
 use Rattle.protocol.specs.Messages.{Envelope}
 use Rattle.protocol.specs.Cluster.{ClusterState}
-use Rattle.protocol_board.specs.Cores.{RunState}
+use Rattle.fault_runs.specs.of_protocol_board.Cores.{RunState}
 use Rattle.run_commands.specs.Reports.{Account, account_of}
 
 abbrev accounts : List Entry → List Envelope → ClusterState → List ℕ → List ℕ → Account

@@ -9,8 +9,8 @@ use Rattle.event_log.specs.Entries.{Entry}
 use Rattle.event_log.specs.Serial.{MainBegins}
 use Rattle.report_text.specs.of_report_lines.Main.{status_of}
 use Rattle.report_text.specs.Report.{report_text}
-use Rattle.protocol_board.specs.Cores.{IsSoundLog, RunState}
-use Rattle.protocol_board.specs.Reports.{json_text}
+use Rattle.fault_runs.specs.of_protocol_board.Cores.{IsSoundLog, RunState}
+use Rattle.fault_runs.specs.of_protocol_board.Reports.{json_text}
 use Rattle.report_laws.specs.Begins.{BeginsAsSerial, BeginsWith}
 use Rattle.report_laws.specs.Json.{SaysAsSerial}
 use Rattle.report_laws.proofs.Reports.{report_begins}

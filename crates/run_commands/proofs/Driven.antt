@@ -1,11 +1,11 @@
 -- A run of a script that is driven from its beginning.
 use Rattle.std.proofs.Common.{◌≡◌, ◌∙◌, ℕ, Bool, true, false, if◌then◌else◌, List, [], refl, sym, ap, subst}
 use Rattle.meaning.specs.Syntax.{Script}
-use Rattle.protocol_board.specs.Cores.{IsSoundLog, RunState, Size, first_state}
+use Rattle.fault_runs.specs.of_protocol_board.Cores.{IsSoundLog, RunState, Size, first_state}
 use Rattle.log_entries.specs.Refusals.{code_of}
 use Rattle.log_entries.specs.declared.refusal.Refusal.{Refusal}
-use Rattle.protocol_board.specs.Replays.{is_no_memory}
-use Rattle.protocol_board.specs.Drives.{Course, EndsSo, StopsSo}
+use Rattle.fault_runs.specs.of_protocol_board.Replays.{is_no_memory}
+use Rattle.fault_runs.specs.of_protocol_board.Drives.{Course, EndsSo, StopsSo}
 use Rattle.raysim_streams.specs.declared.CommandRefusal.{CommandRefusal}
 use Rattle.raysim_streams.specs.declared.CommandRefusal.TheVariants.{NoMemory, Stopped}
 use Rattle.run_commands.specs.declared.form.Form.{Form}

@@ -11,12 +11,12 @@ use Rattle.event_files.specs.declared.line.Line.TheVariants as lines
 use Rattle.event_files.specs.declared.event_file.EventFile.{EventFile}
 use Rattle.event_files.specs.declared.event_file.EventFile.TheVariants as files
 use Rattle.event_files.specs.declared.recorded.RecordedEvent.{RecordedEvent}
-use Rattle.protocol_board.specs.Cores.{Accepts, Follows, GivesJob, Refuses, Reply, RunState, Size}
-use Rattle.protocol_board.specs.Replays.{AllPlay, EventPlays, EventStops, FileStops, LinePlays, LineStops, OneStops, Play, PlaysFile, Settles, SettleStops}
-use Rattle.protocol_board.specs.Replays.{Step, StopsAt, found_no_memory, is_no_memory, next_line}
-use Rattle.protocol_board.specs.declared.stopped.ReplayStop.{ReplayStop}
-use Rattle.protocol_board.specs.declared.stopped.ReplayStop.TheVariants as stops
-use Rattle.protocol_board.specs.Drives.{BreaksAfter, BreaksOff, Course, EndsSo, Goes, IsTaken, StopsSo, Turn, Turns}
+use Rattle.fault_runs.specs.of_protocol_board.Cores.{Accepts, Follows, GivesJob, Refuses, Reply, RunState, Size}
+use Rattle.fault_runs.specs.of_protocol_board.Replays.{AllPlay, EventPlays, EventStops, FileStops, LinePlays, LineStops, OneStops, Play, PlaysFile, Settles, SettleStops}
+use Rattle.fault_runs.specs.of_protocol_board.Replays.{Step, StopsAt, found_no_memory, is_no_memory, next_line}
+use Rattle.fault_runs.specs.of_protocol_board.declared.stopped.ReplayStop.{ReplayStop}
+use Rattle.fault_runs.specs.of_protocol_board.declared.stopped.ReplayStop.TheVariants as stops
+use Rattle.fault_runs.specs.of_protocol_board.Drives.{BreaksAfter, BreaksOff, Course, EndsSo, Goes, IsTaken, StopsSo, Turn, Turns}
 use Rattle.run_commands.specs.SimReports.{first_play}
 use Rattle.run_commands.specs.RunReports.{first_run}
 use Rattle.run_commands.specs.SoFar.{IsDriven, IsPlayed, replay_lacks_memory}

@@ -12,8 +12,8 @@ use Rattle.event_log.specs.Entries.{Entry}
 use Rattle.log_words.specs.declared.contents.Contents.{Contents}
 use Rattle.page_text.specs.Text.{page_text}
 use Rattle.protocol.specs.Cluster.{ClusterState}
-use Rattle.protocol_board.specs.Cores.{Size}
-use Rattle.protocol_board.specs.Replays.{Play}
+use Rattle.fault_runs.specs.of_protocol_board.Cores.{Size}
+use Rattle.fault_runs.specs.of_protocol_board.Replays.{Play}
 use Rattle.script_commands.specs.Scripts.{IsScript}
 use Rattle.run_commands.specs.SimReports.{AreEvents, IfBoth, IsReplayed}
 use Rattle.run_commands.specs.Pages.{IsPageBegun, IsPageIn, IsPageOf, IsPageWritten}

@@ -6,10 +6,10 @@ use Rattle.meaning.specs.Syntax.{Script}
 use Rattle.event_files.specs.declared.error.EventError.TheVariants as errors
 use Rattle.event_files.specs.declared.event_file.EventFile.{EventFile}
 use Rattle.event_files.specs.Recorded.{IsFileRefusal}
-use Rattle.protocol_board.specs.Cores.{IsSoundLog, Size}
-use Rattle.protocol_board.specs.declared.stopped.ReplayStop.{ReplayStop}
-use Rattle.protocol_board.specs.declared.stopped.ReplayStop.TheVariants as stops
-use Rattle.protocol_board.specs.Replays.{FileStops, Play, PlaysFile}
+use Rattle.fault_runs.specs.of_protocol_board.Cores.{IsSoundLog, Size}
+use Rattle.fault_runs.specs.of_protocol_board.declared.stopped.ReplayStop.{ReplayStop}
+use Rattle.fault_runs.specs.of_protocol_board.declared.stopped.ReplayStop.TheVariants as stops
+use Rattle.fault_runs.specs.of_protocol_board.Replays.{FileStops, Play, PlaysFile}
 use Rattle.raysim_streams.specs.Settled.{IsOfWriting}
 use Rattle.raysim_streams.specs.declared.Failure.{Failure}
 use Rattle.raysim_streams.specs.declared.Failure.TheVariants.{Read, Write, Closed}

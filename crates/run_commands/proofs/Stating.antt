@@ -6,8 +6,8 @@ use Rattle.meaning.specs.Syntax.{Script}
 use Rattle.event_files.specs.declared.event_file.EventFile.{EventFile}
 use Rattle.event_files.specs.declared.line.Line.{Line}
 use Rattle.event_log.specs.Entries.{Entry}
-use Rattle.protocol_board.specs.Cores.{IsSoundLog, RunState, Size}
-use Rattle.protocol_board.specs.Replays.{Play}
+use Rattle.fault_runs.specs.of_protocol_board.Cores.{IsSoundLog, RunState, Size}
+use Rattle.fault_runs.specs.of_protocol_board.Replays.{Play}
 use Rattle.fault_runs.specs.Replays.{EndsSo}
 use Rattle.state_text.specs.Text.{event_count}
 use Rattle.script_commands.specs.Scripts.{IsScript}

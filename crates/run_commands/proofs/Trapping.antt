@@ -4,9 +4,9 @@ use Rattle.meaning.specs.Syntax.{Script}
 use Rattle.script_tokens.specs.declared.token.Span.{Span}
 use Rattle.event_files.specs.declared.event_file.EventFile.{EventFile}
 use Rattle.event_log.specs.Entries.{Entry}
-use Rattle.protocol_board.specs.Cores.{IsSoundLog, Size}
-use Rattle.protocol_board.specs.Drives.{Course}
-use Rattle.protocol_board.specs.Replays.{Play}
+use Rattle.fault_runs.specs.of_protocol_board.Cores.{IsSoundLog, Size}
+use Rattle.fault_runs.specs.of_protocol_board.Drives.{Course}
+use Rattle.fault_runs.specs.of_protocol_board.Replays.{Play}
 use Rattle.trap_text.specs.Text.{IsTrapTold}
 use Rattle.trap_text.specs.declared.text.TrapAsked.{TrapAsked}
 use Rattle.run_commands.specs.RunReports.{first_run}

@@ -6,8 +6,8 @@ use Rattle.std.specs.Io.KnownBytes.{Appends}
 use Rattle.meaning.specs.Syntax.{Script}
 use Rattle.event_log.specs.Entries.{Entry}
 use Rattle.event_files.specs.declared.event_file.EventFile.{EventFile}
-use Rattle.protocol_board.specs.Cores.{Size}
-use Rattle.protocol_board.specs.Replays.{Play}
+use Rattle.fault_runs.specs.of_protocol_board.Cores.{Size}
+use Rattle.fault_runs.specs.of_protocol_board.Replays.{Play}
 use Rattle.fault_lists.specs.declared.choice.FaultChoice.{FaultChoice}
 use Rattle.fault_lists.specs.declared.tried.Tried.{Tried}
 use Rattle.fault_lists.specs.Lists.{event_in, fault_lists}

@@ -2,9 +2,9 @@
 use Rattle.std.proofs.Common.{◌≡◌, ◌∙◌, ℕ, List, [], sym, subst}
 use Rattle.meaning.specs.Syntax.{Script}
 use Rattle.event_files.specs.declared.event_file.EventFile.{EventFile}
-use Rattle.protocol_board.specs.Cores.{IsSoundLog, Size}
-use Rattle.protocol_board.specs.Drives.{Course}
-use Rattle.protocol_board.specs.Replays.{Play}
+use Rattle.fault_runs.specs.of_protocol_board.Cores.{IsSoundLog, Size}
+use Rattle.fault_runs.specs.of_protocol_board.Drives.{Course}
+use Rattle.fault_runs.specs.of_protocol_board.Replays.{Play}
 use Rattle.raysim_streams.specs.declared.CommandRefusal.{CommandRefusal}
 use Rattle.raysim_streams.specs.declared.CommandRefusal.TheVariants.{At, NoMemory, Stopped, BadLine, WrongJob, Failed}
 use Rattle.script_commands.specs.Scripts.{ExplainsText, IsAllowed, IsRefusalOf, IsScript}

@@ -6,4 +6,4 @@ pub mod SimReports
 pub mod SoFar
 pub mod States
 pub mod TrapReports
-pub use Rattle.protocol_board.specs as of_protocol_board
+pub use Rattle.fault_runs.specs.of_protocol_board as of_protocol_board

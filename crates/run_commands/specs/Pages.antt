@@ -6,8 +6,8 @@ use Rattle.event_files.specs.declared.event_file.EventFile.{EventFile}
 use Rattle.report_text.specs.of_report_lines.Main.{status_of}
 use Rattle.log_words.specs.declared.contents.Contents.{Contents}
 use Rattle.page_text.specs.Text.{page_text}
-use Rattle.protocol_board.specs.Cores.{Size}
-use Rattle.protocol_board.specs.Replays.{Play}
+use Rattle.fault_runs.specs.of_protocol_board.Cores.{Size}
+use Rattle.fault_runs.specs.of_protocol_board.Replays.{Play}
 use Rattle.script_commands.specs.Scripts.{IsScript}
 use Rattle.run_commands.specs.SimReports.{AreEvents, IsReplayed}
 

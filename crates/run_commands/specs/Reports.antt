@@ -20,8 +20,8 @@ use Rattle.summary_text.specs.Text.{summary_text}
 use Rattle.timeline.specs.Text.{timeline_data}
 use Rattle.protocol.specs.Messages.{Envelope}
 use Rattle.protocol.specs.Cluster.{ClusterState}
-use Rattle.protocol_board.specs.Cores.{RunState}
-use Rattle.protocol_board.specs.Reports.{json_text}
+use Rattle.fault_runs.specs.of_protocol_board.Cores.{RunState}
+use Rattle.fault_runs.specs.of_protocol_board.Reports.{json_text}
 use Rattle.run_commands.specs.declared.form.Form.{Form}
 use Rattle.run_commands.specs.declared.form.Form.TheVariants as forms
 

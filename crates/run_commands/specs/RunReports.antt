@@ -3,12 +3,12 @@ use Rattle.std.specs.Prelude.{◌≡◌, ◌⊎◌, ℕ, Bool, false, if◌then�
 use Rattle.std.specs.Io.KnownBytes.{Appends}
 use Rattle.meaning.specs.Syntax.{Script}
 use Rattle.report_text.specs.of_report_lines.Main.{status_of}
-use Rattle.protocol_board.specs.Cores.{Size, first_state}
-use Rattle.protocol_board.specs.Cores.{IsSoundLog}
+use Rattle.fault_runs.specs.of_protocol_board.Cores.{Size, first_state}
+use Rattle.fault_runs.specs.of_protocol_board.Cores.{IsSoundLog}
 use Rattle.log_entries.specs.Refusals.{code_of}
 use Rattle.log_entries.specs.declared.refusal.Refusal.{Refusal}
-use Rattle.protocol_board.specs.Replays.{is_no_memory}
-use Rattle.protocol_board.specs.Drives.{Course, EndsSo, StopsSo}
+use Rattle.fault_runs.specs.of_protocol_board.Replays.{is_no_memory}
+use Rattle.fault_runs.specs.of_protocol_board.Drives.{Course, EndsSo, StopsSo}
 use Rattle.raysim_streams.specs.declared.CommandRefusal.{CommandRefusal}
 use Rattle.raysim_streams.specs.declared.CommandRefusal.TheVariants.{At, NoMemory, Stopped as Stops, BadLine, WrongJob, Failed}
 use Rattle.run_commands.specs.declared.form.Form.{Form}

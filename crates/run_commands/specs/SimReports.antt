@@ -9,11 +9,11 @@ use Rattle.event_files.specs.Recorded.{IsEventFile, IsFileRefusal}
 use Rattle.event_files.specs.Numbering.{line_numbers}
 use Rattle.event_log.specs.Events.{from_one}
 use Rattle.report_text.specs.of_report_lines.Main.{status_of}
-use Rattle.protocol_board.specs.Cores.{Size, first_state}
-use Rattle.protocol_board.specs.declared.stopped.ReplayStop.{ReplayStop}
-use Rattle.protocol_board.specs.declared.stopped.ReplayStop.TheVariants as stops
-use Rattle.protocol_board.specs.Cores.{IsSoundLog}
-use Rattle.protocol_board.specs.Replays.{FileStops, Play, PlaysFile}
+use Rattle.fault_runs.specs.of_protocol_board.Cores.{Size, first_state}
+use Rattle.fault_runs.specs.of_protocol_board.declared.stopped.ReplayStop.{ReplayStop}
+use Rattle.fault_runs.specs.of_protocol_board.declared.stopped.ReplayStop.TheVariants as stops
+use Rattle.fault_runs.specs.of_protocol_board.Cores.{IsSoundLog}
+use Rattle.fault_runs.specs.of_protocol_board.Replays.{FileStops, Play, PlaysFile}
 use Rattle.raysim_streams.specs.declared.Failure.TheVariants.{Read, Write, Closed}
 use Rattle.raysim_streams.specs.declared.CommandRefusal.{CommandRefusal}
 use Rattle.raysim_streams.specs.declared.CommandRefusal.TheVariants.{At, NoMemory, Stopped as Stops, BadLine, WrongJob, Failed}

@@ -3,12 +3,12 @@ use Rattle.std.specs.Prelude.{◌≡◌, ◌⊎◌, ℕ, Bool, true, false, List
 use Rattle.meaning.specs.Syntax.{Script}
 use Rattle.event_files.specs.declared.event_file.EventFile.{EventFile}
 use Rattle.report_text.specs.of_report_lines.Main.{status_of}
-use Rattle.protocol_board.specs.Cores.{IsSoundLog, RunState, Size}
-use Rattle.protocol_board.specs.declared.stopped.ReplayStop.{ReplayStop}
-use Rattle.protocol_board.specs.declared.stopped.ReplayStop.TheVariants as stops
+use Rattle.fault_runs.specs.of_protocol_board.Cores.{IsSoundLog, RunState, Size}
+use Rattle.fault_runs.specs.of_protocol_board.declared.stopped.ReplayStop.{ReplayStop}
+use Rattle.fault_runs.specs.of_protocol_board.declared.stopped.ReplayStop.TheVariants as stops
 use Rattle.log_entries.specs.declared.refusal.Refusal.{Refusal}
-use Rattle.protocol_board.specs.Drives.{Course, EndsSo, StopsSo}
-use Rattle.protocol_board.specs.Replays.{FileStops, Play, PlaysFile, is_no_memory}
+use Rattle.fault_runs.specs.of_protocol_board.Drives.{Course, EndsSo, StopsSo}
+use Rattle.fault_runs.specs.of_protocol_board.Replays.{FileStops, Play, PlaysFile, is_no_memory}
 use Rattle.raysim_streams.specs.declared.CommandRefusal.{CommandRefusal}
 use Rattle.raysim_streams.specs.declared.CommandRefusal.TheVariants.{At, NoMemory, Stopped as Stops, BadLine, WrongJob, Failed}
 use Rattle.run_commands.specs.declared.form.Form.{Form}

@@ -8,8 +8,8 @@ use Rattle.event_files.specs.declared.line.Line.{Line}
 use Rattle.event_files.specs.declared.line.Line.TheVariants as lines
 use Rattle.event_log.specs.Entries.{Entry, Event}
 use Rattle.report_text.specs.of_report_lines.Main.{status_of}
-use Rattle.protocol_board.specs.Cores.{IsSoundLog, RunState, Size}
-use Rattle.protocol_board.specs.Replays.{Play}
+use Rattle.fault_runs.specs.of_protocol_board.Cores.{IsSoundLog, RunState, Size}
+use Rattle.fault_runs.specs.of_protocol_board.Replays.{Play}
 use Rattle.fault_lists.specs.Lists.{event_in}
 use Rattle.fault_runs.specs.Replays.{EndsSo}
 use Rattle.state_text.specs.Text.{event_count, state_text}

@@ -3,9 +3,9 @@ use Rattle.std.specs.Prelude.{ℕ, List, None, Option, Some}
 use Rattle.meaning.specs.Syntax.{Script}
 use Rattle.script_tokens.specs.declared.token.Span.{Span}
 use Rattle.event_files.specs.declared.event_file.EventFile.{EventFile}
-use Rattle.protocol_board.specs.Cores.{IsSoundLog, Size}
-use Rattle.protocol_board.specs.Drives.{Course}
-use Rattle.protocol_board.specs.Replays.{Play}
+use Rattle.fault_runs.specs.of_protocol_board.Cores.{IsSoundLog, Size}
+use Rattle.fault_runs.specs.of_protocol_board.Drives.{Course}
+use Rattle.fault_runs.specs.of_protocol_board.Replays.{Play}
 use Rattle.script_commands.specs.Scripts.{IsPlaced}
 use Rattle.trap_text.specs.Text.{IsTrapTold}
 use Rattle.trap_text.specs.declared.text.TrapAsked.{TrapAsked}

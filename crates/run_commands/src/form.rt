@@ -3,7 +3,7 @@
 ghost use Rattle.std.specs.Prelude.{◌≡◌, ◌++◌, IfOk, string_bytes};
 ghost use Rattle.books.specs.Lines.{book_lines};
 ghost use Rattle.report_text.specs.Report.{report_text};
-ghost use Rattle.protocol_board.specs.Cores.{IsSoundLog};
+ghost use Rattle.fault_runs.specs.of_protocol_board.Cores.{IsSoundLog};
 ghost use Rattle.run_commands.specs.Reports.{IsReportIn, account_of};
 ghost use Rattle.state_text.specs.Text.{event_count, state_text};
 ghost use Rattle.summary_text.specs.Text.{summary_text};

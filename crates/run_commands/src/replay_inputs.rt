@@ -2,7 +2,7 @@
 
 ghost use Rattle.std.specs.Prelude.{◌≡◌, IfOk, IfErr, IfSome};
 ghost use Rattle.script_check.specs.Trees.{script_of};
-ghost use Rattle.protocol_board.specs.Cores.{Size};
+ghost use Rattle.fault_runs.specs.of_protocol_board.Cores.{Size};
 ghost use Rattle.script_commands.specs.Scripts.{Counts, IsScript};
 ghost use Rattle.run_commands.specs.SimReports.{AreEvents, ExplainsSim};
 

@@ -2,7 +2,7 @@
 
 ghost use Rattle.std.specs.Prelude.{◌≡◌, false, IfOk, IfErr, OnOk};
 ghost use Rattle.script_check.specs.Trees.{script_of};
-ghost use Rattle.protocol_board.specs.Replays.{from_first};
+ghost use Rattle.fault_runs.specs.of_protocol_board.Replays.{from_first};
 ghost use Rattle.run_commands.specs.SimReports.{IsReplayed, IsStopOf, stop_refusal};
 ghost use Rattle.run_commands.specs.SoFar.{IsPlayed, IsReplayedSoFar, replay_lacks_memory};
 

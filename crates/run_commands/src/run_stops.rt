@@ -1,7 +1,7 @@
 // Why a run that is driven stops, and what is refused for it.
 
 ghost use Rattle.std.specs.Prelude.{◌≡◌};
-ghost use Rattle.protocol_board.specs.Replays.{is_no_memory};
+ghost use Rattle.fault_runs.specs.of_protocol_board.Replays.{is_no_memory};
 ghost use Rattle.run_commands.specs.RunReports.{run_refusal};
 
 use log_entries::Refusal;

@@ -2,9 +2,9 @@
 
 ghost use Rattle.std.specs.Prelude.{◌≡◌, false, IfOk, IfErr, OnOk, string_bytes};
 ghost use Rattle.script_check.specs.Trees.{script_of};
-ghost use Rattle.protocol_board.specs.Views.{course_of};
+ghost use Rattle.fault_runs.specs.of_protocol_board.Views.{course_of};
 ghost use Rattle.script_commands.specs.Scripts.{ExplainsText};
-ghost use Rattle.protocol_board.specs.Replays.{is_no_memory};
+ghost use Rattle.fault_runs.specs.of_protocol_board.Replays.{is_no_memory};
 ghost use Rattle.run_commands.specs.SoFar.{ExplainsTexts, IsDriven, IsReplaySoFar, IsReplayToldOf, IsRunSoFar, IsRunToldOf};
 
 use crate::event_lines::{EventLines, event_lines};

@@ -2,7 +2,7 @@
 
 ghost use Rattle.std.specs.Prelude.{◌≡◌, ◌⊎◌, IfOk, IfErr, map, string_bytes, take};
 ghost use Rattle.script_check.specs.Trees.{script_of};
-ghost use Rattle.protocol_board.specs.Cores.{IsSoundLog};
+ghost use Rattle.fault_runs.specs.of_protocol_board.Cores.{IsSoundLog};
 ghost use Rattle.script_commands.specs.Scripts.{IsUnwritten};
 ghost use Rattle.run_commands.specs.SimReports.{ExplainsSim, IfBoth, IsStopOf};
 ghost use Rattle.run_commands.specs.States.{IsBehind, IsStateBegun, IsStateNow, IsStateOf, IsStateTold, event_line, first_events};

@@ -1,7 +1,7 @@
 // What is written of a run, and the status of main's end.
 
 ghost use Rattle.std.specs.Prelude.{◌≡◌, IfOk, IfErr, string_bytes};
-ghost use Rattle.protocol_board.specs.Cores.{IsSoundLog};
+ghost use Rattle.fault_runs.specs.of_protocol_board.Cores.{IsSoundLog};
 ghost use Rattle.run_commands.specs.SoFar.{IsToldOf, IsToldOfReplay};
 
 use crate::event_lines::lines_in_file;

@@ -3,4 +3,4 @@
 
 pub mod law;
 
-pub use protocol_board::{Board, Reply};
+pub use protocol_board::{Board, Replay, ReplayStop, Reply, drive};

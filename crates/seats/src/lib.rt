@@ -18,6 +18,8 @@ pub use end::Ended;
 pub use gate::Gate;
 pub use outs::JobOut;
 pub use run_name::RunName;
+// (passed on to those above)
+pub use run_paths::{Board, Replay, ReplayStop, drive};
 pub use shared::Shared;
 pub use threads::run_on_threads;
 pub use turn::Turn;

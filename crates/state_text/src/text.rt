@@ -63,6 +63,8 @@ pub fn state_text(
 {
     let mut text = String::new(alloc);
     let index = BirthIndex::of(alloc, log)?;
-    write_state(alloc, &mut text, &index, log, whole, all)?;
+    let written = write_state(alloc, &mut text, &index, log, whole, all);
+    drop(index);
+    written?;
     Ok(text)
 }

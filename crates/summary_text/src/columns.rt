@@ -17,7 +17,7 @@ use report_text::AttemptStates;
 use task_spec::Birth;
 
 /// What is counted of a function.
-#[derive(Clone, Copy, PartialEq, Eq, Debug)]
+#[derive(Clone, Copy)]
 pub enum Column {
     /// The tasks that were made.
     Tasks,

@@ -32,6 +32,22 @@ fn write_parts(
     Ok(())
 }
 
+fn write_parts_of(
+    alloc: Global,
+    text: &mut String,
+    index: &BirthIndex,
+    log: &[Entry],
+    envelopes: &[Envelope],
+) -> Result<(), AllocError>
+    requires { IsIndexOf index.now log.now }
+    ensures { OnOk result (string_bytes text.new ≡ string_bytes text.old ++ parts_text log.now envelopes.now) }
+{
+    let states = AttemptStates::of(alloc, log)?;
+    let written = write_parts(text, index, &states, log, envelopes);
+    drop(states);
+    written
+}
+
 /// What a run with this log and these messages came to, behind a line `summary`: a line for each function, main first and the others in the order in
 /// which their first tasks were born; for each kind of messages that were sent; for each kind of events that came; and for the workers that were
 /// opened. docs/state.md says what each number counts.
@@ -45,7 +61,8 @@ pub fn summary_text(
 {
     let mut text = String::from_str(alloc, "summary\n")?;
     let index = BirthIndex::of(alloc, log)?;
-    let states = AttemptStates::of(alloc, log)?;
-    write_parts(&mut text, &index, &states, log, envelopes)?;
+    let written = write_parts_of(alloc, &mut text, &index, log, envelopes);
+    drop(index);
+    written?;
     Ok(text)
 }

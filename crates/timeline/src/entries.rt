@@ -107,6 +107,44 @@ fn add_all_open(
     Ok(())
 }
 
+fn add_each(
+    alloc: Global,
+    all: &mut Vec<Value>,
+    contents: Contents,
+    index: &BirthIndex,
+    log: &[Entry],
+    envelopes: &[Envelope],
+    sent: &[usize],
+    arrivals: &[usize],
+) -> Result<(), AllocError>
+    requires { IsIndexOf index.now log.now }
+    ensures { OnOk result (map view all.new.items ≡ map view all.old.items
+        ++ entries_data contents (births log.now) envelopes.now sent.now arrivals.now nothing_told [] log.now) }
+{
+    let mut told = Told::new(alloc);
+    let mut rows = Vec::new(alloc);
+    for (place, entry) in log.iter().enumerate() {
+        let is_refused = is_refusal_at(log, place + 1);
+        told.note(entry, is_refused)?;
+        add_whole(
+            alloc,
+            all,
+            contents,
+            index,
+            log,
+            envelopes,
+            sent,
+            arrivals,
+            told.events,
+            &rows,
+            entry,
+            is_refused,
+        )?;
+        rows = rows_after(alloc, &told, entry, is_refused, &rows)?;
+    }
+    add_all_open(alloc, all, contents, index, log, told.events, &rows)
+}
+
 /// What the entries of a log add, where `arrivals` has for each message the event that delivered it first.
 pub fn add_entries(
     alloc: Global,
@@ -121,26 +159,7 @@ pub fn add_entries(
         ++ entries_data contents (births log.now) envelopes.now sent.now arrivals.now nothing_told [] log.now) }
 {
     let index = BirthIndex::of(alloc, log)?;
-    let mut told = Told::new(alloc);
-    let mut rows = Vec::new(alloc);
-    for (place, entry) in log.iter().enumerate() {
-        let is_refused = is_refusal_at(log, place + 1);
-        told.note(entry, is_refused)?;
-        add_whole(
-            alloc,
-            all,
-            contents,
-            &index,
-            log,
-            envelopes,
-            sent,
-            arrivals,
-            told.events,
-            &rows,
-            entry,
-            is_refused,
-        )?;
-        rows = rows_after(alloc, &told, entry, is_refused, &rows)?;
-    }
-    add_all_open(alloc, all, contents, &index, log, told.events, &rows)
+    let added = add_each(alloc, all, contents, &index, log, envelopes, sent, arrivals);
+    drop(index);
+    added
 }

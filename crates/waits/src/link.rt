@@ -3,7 +3,7 @@
 use ids::{AttemptId, NodeId, ObjectId, WorkerId};
 
 /// What keeps an attempt from going on. One leads to the next; the last ones say which event would let it go on.
-#[derive(Clone, Copy, PartialEq, Eq, Debug)]
+#[derive(Clone, Copy)]
 pub enum Link {
     /// The worker is dead: no event lets its attempt go on.
     IsDead(WorkerId),

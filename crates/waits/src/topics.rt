@@ -8,7 +8,7 @@ use ids::{AttemptId, NodeId, ObjectId, WorkerId};
 use protocol_data::{Endpoint, Envelope, Message};
 
 /// What a message is about.
-#[derive(Clone, Copy, PartialEq, Eq, Debug)]
+#[derive(Clone, Copy)]
 pub enum Topic {
     /// The ask of that number for the attempt.
     AskFor(AttemptId, u32),

@@ -59,7 +59,27 @@ fn write_sentences(
     Ok(())
 }
 
-/// Writes what the log says of an object, whose task is named by that one.
+/// Writes what the log, of which that is the index, says of an object, whose task is named by that one.
+fn write_account_by(
+    alloc: Global,
+    text: &mut String,
+    contents: Contents,
+    index: &BirthIndex,
+    log: &[Entry],
+    lines: &[usize],
+    object: ObjectId,
+    task: ObjectId,
+) -> Result<(), AllocError>
+    requires { IsIndexOf index.now log.now }
+    ensures { OnOk result (string_bytes text.new ≡ string_bytes text.old ++ account_of contents log.now lines.now object task) }
+{
+    write_unborn(text, object, index.birth(log, task))?;
+    let subject = Subject::of(alloc, index, log, object, task)?;
+    let written = write_sentences(alloc, text, contents, &subject, index, log, lines);
+    drop(subject);
+    written
+}
+
 fn write_account_of(
     alloc: Global,
     text: &mut String,
@@ -72,9 +92,9 @@ fn write_account_of(
     ensures { OnOk result (string_bytes text.new ≡ string_bytes text.old ++ account_of contents log.now lines.now object task) }
 {
     let index = BirthIndex::of(alloc, log)?;
-    let subject = Subject::of(alloc, &index, log, object, task)?;
-    write_unborn(text, object, index.birth(log, task))?;
-    write_sentences(alloc, text, contents, &subject, &index, log, lines)
+    let written = write_account_by(alloc, text, contents, &index, log, lines, object, task);
+    drop(index);
+    written
 }
 
 /// Writes what the log says of an object.

@@ -134,7 +134,7 @@ pub fn why_text(
 }
 
 /// A fault in place of an answer, and the object that was to be got.
-#[derive(Clone, Copy, PartialEq, Eq, Debug)]
+#[derive(Clone, Copy)]
 pub struct Lack {
     /// The object that was to be got.
     pub object: ObjectId,

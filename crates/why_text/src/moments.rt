@@ -7,7 +7,7 @@ use log_entries::{Entry, Event};
 use std::alloc::AllocError;
 
 /// How many events came, the last of them, and the line of the event file from which it came, if there is one.
-#[derive(Clone, Copy, PartialEq, Eq, Debug)]
+#[derive(Clone, Copy)]
 pub struct Moment {
     /// How many events came, this one counted.
     pub number: usize,

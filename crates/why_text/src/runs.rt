@@ -14,7 +14,7 @@ use std::alloc::{AllocError, Global};
 
 /// An attempt, the numbers of its worker and of the node of that, whether the log never says that it ended, and whether its worker was
 /// killed for itself, not with its node.
-#[derive(Clone, Copy, PartialEq, Eq, Debug)]
+#[derive(Clone, Copy)]
 pub struct Run {
     pub attempt: AttemptId,
     pub worker: u32,

@@ -1,3 +1,1 @@
-pub mod Losing
-pub mod Moves
 pub mod Sendings

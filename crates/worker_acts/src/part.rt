@@ -4,10 +4,10 @@ ghost use Rattle.std.specs.Prelude.{◌≡◌, OnOk};
 ghost use Rattle.protocol.specs.Releases.{release_step};
 ghost use Rattle.worker_acts.specs.Acts.{act_step};
 
-use crate::deaths::{notice_node_step, notice_step};
 use crate::messages::reached;
 use crate::ticks::tick_step;
 use commit_steps::{claim_step, commit_step};
+use death_steps::{notice_node_step, notice_step};
 use ids::{NodeId, WorkerId};
 use protocol_data::{Endpoint, Message, Outcomes, WorkerContext};
 use std::alloc::{AllocError, Global};

@@ -6,7 +6,7 @@ ghost use Rattle.protocol.specs.Steps.{own_object};
 ghost use Rattle.protocol.specs.Ticks.{asks_again, sends_holds, sends_run, sends_stop, sends_task, sends_tasks, tick_step};
 ghost use Rattle.protocol_data.specs.declared.tables.Execution.{Execution};
 
-use crate::worker_deaths::is_unheard;
+use death_steps::is_unheard;
 use ids::{AttemptId, ObjectId};
 use number_lists::object_at_number;
 use protocol_data::{Holding, Message, ObjectSource, Phase, Progress, WorkerContext};

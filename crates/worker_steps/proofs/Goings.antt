@@ -1,23 +1,13 @@
 -- What goes with an object that is released.
-use Rattle.std.proofs.Common.{◌≡◌, ℕ, zero, suc, ◌+◌, ◌-◌, ◌<◌, ◌≤◌, List, [], ◌∷◌, Bool, true, false, Option, Some, None, refl, sym, ap, ◌∙◌, append-nil, append_assoc, arith}
+use Rattle.std.proofs.Common.{◌≡◌, ℕ, zero, suc, ◌+◌, ◌-◌, ◌<◌, ◌≤◌, List, [], ◌∷◌, Bool, true, false, Some, refl, sym, ap, ◌∙◌, append-nil, append_assoc, arith}
 use Rattle.std.specs.Prelude.{if◌then◌else◌, ◌&&◌, ◌++◌, map, not}
-use Rattle.meaning.specs.Values.{results_of}
 use Rattle.meaning.specs.Runs.{ids_from}
 use Rattle.event_log.specs.Entries.{Entry, Released}
 use Rattle.protocol.specs.Numbered.{item_at}
 use Rattle.protocol.specs.Releases.{are_unneeded, going_with, is_unneeded_at, lets_all_go, marks_released, may_release, releases_all, releases_by}
 use Rattle.protocol.specs.Sets.{object_id}
 use Rattle.protocol.specs.Steps.{WorkerContext, changes, each_from, logs, logs_all, own_id, own_object}
-use Rattle.protocol.specs.Tables.{ByTask, Beside, ObjectSource, Object, OwnTask, WasPut, Worker, is_bearer_over, is_pending_by, released, task_in, task_of}
-
-by_task : (m : ObjectSource) (task : OwnTask) → task_in m ≡ Some task → going_with m ≡ results_of task.spec
-by_task WasPut task e = absurd cc
-by_task (ByTask t) task e = let same : t ≡ task = cc in ap (λ u. results_of u.spec) same
-by_task (Beside k) task e = absurd cc
-
--- with the first object of a task all of them go
-pub goes_by_task : (o : Option Object) (x : Object) (task : OwnTask) → o ≡ Some x → task_of o ≡ Some task → going_with x.source ≡ results_of task.spec
-goes_by_task o x task there e = by_task x.source task (sym (ap task_of there) ∙ e)
+use Rattle.protocol.specs.Tables.{Object, Worker, is_bearer_over, is_pending_by, released, task_in}
 
 -- ---- whether they may go
 

@@ -1,31 +1,18 @@
 // What objects of the dead held.
 
-ghost use Rattle.std.specs.Prelude.{◌≡◌, ◌++◌, ◌==◌, OnOk, IfOk, map, not};
+ghost use Rattle.std.specs.Prelude.{◌≡◌, ◌++◌, ◌==◌, OnOk, map, not};
 ghost use Rattle.std.specs.List.{filter};
 ghost use Rattle.protocol.specs.Tables.{holders_of};
 ghost use Rattle.protocol.specs.Steps.{own_id, own_object};
 ghost use Rattle.protocol.specs.Holders.{collects, drops_dead, drops_dead_by, drops_holders, first_born, first_born_first, holding, lets_go_of_dead, passes_on};
 
-use crate::basics::say;
 use crate::own::drop_dead_holder;
 use ids::{ObjectId, WorkerId};
-use number_lists::{has_object, object_at_number};
-use protocol_data::{Holding, Message, Object, Reason, WorkerContext};
+use number_lists::object_at_number;
+use protocol_data::{Holding, Message, Reason, WorkerContext};
 use sequence::Seq;
 use std::alloc::{AllocError, Global};
-
-/// The holders of the object that the worker owns.
-fn holders_of(alloc: Global, object: &Object, worker: WorkerId) -> Result<Seq<ObjectId>, AllocError>
-    ensures { IfOk result (λ holders. holders ≡ holders_of worker object.now) }
-{
-    let mut holders = Seq::new(alloc);
-    for holder in &object.added.items {
-        if holder.owned_by(worker) && !has_object(&object.removed, *holder) {
-            holders.push(*holder)?;
-        }
-    }
-    Ok(holders)
-}
+use worker_tables::{holders_of, say};
 
 /// The id of the least serial, of the first and these.
 fn first_born(first: ObjectId, others: &Seq<ObjectId>) -> ObjectId

@@ -1,6 +1,6 @@
 use Rattle.std.proofs.Common.{◌∙◌, ap}
 use Rattle.report_text.specs.of_report_lines.Main.{status_of}
-use Rattle.protocol_board.specs.Cores.{RunState}
+use Rattle.fault_runs.specs.of_protocol_board.Cores.{RunState}
 use Rattle.run_commands.proofs.Paging.{page_same}
 use Rattle.run_commands.proofs.page_command.page_now.Goals as goal
 

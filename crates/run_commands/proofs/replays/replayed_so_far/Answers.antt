@@ -1,7 +1,7 @@
 use Rattle.std.proofs.Common.{[], ◌∙◌, ap, subst, sym}
 use Rattle.script_check.specs.Trees.{script_of}
-use Rattle.protocol_board.specs.Cores.{IsSoundLog, RunState}
-use Rattle.protocol_board.specs.Replays.{Play, from_first}
+use Rattle.fault_runs.specs.of_protocol_board.Cores.{IsSoundLog, RunState}
+use Rattle.fault_runs.specs.of_protocol_board.Replays.{Play, from_first}
 use Rattle.run_commands.proofs.UpToThere.{played_so}
 use Rattle.run_commands.proofs.replays.replayed_so_far.Goals as goal
 

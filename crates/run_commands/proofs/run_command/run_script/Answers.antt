@@ -1,7 +1,7 @@
 use Rattle.std.proofs.Common.{◌≡◌, ◌∙◌, string_bytes}
 use Rattle.std.proofs.lemmas.Result.{IfErr-weaker, IfOk-weaker}
 use Rattle.script_check.specs.Trees.{script_of}
-use Rattle.protocol_board.specs.Views.{course_of}
+use Rattle.fault_runs.specs.of_protocol_board.Views.{course_of}
 use Rattle.raysim_streams.specs.declared.CommandRefusal.TheVariants.{NoMemory}
 use Rattle.run_commands.specs.RunReports.{IsReportOf, IsRunStop}
 use Rattle.run_commands.specs.SoFar.{IsToldOf}

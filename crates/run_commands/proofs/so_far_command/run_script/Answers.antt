@@ -1,7 +1,7 @@
 use Rattle.std.proofs.Common.{◌∙◌, string_bytes}
 use Rattle.std.proofs.lemmas.Result.{IfOk-weaker}
 use Rattle.script_check.specs.Trees.{script_of}
-use Rattle.protocol_board.specs.Views.{course_of}
+use Rattle.fault_runs.specs.of_protocol_board.Views.{course_of}
 use Rattle.run_commands.specs.SoFar.{IsRunSoFar, IsToldOf}
 use Rattle.run_commands.proofs.Driven.{begins_so}
 use Rattle.run_commands.proofs.UpToThere.{run_told_so}

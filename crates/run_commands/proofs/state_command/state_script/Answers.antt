@@ -1,7 +1,7 @@
 use Rattle.std.proofs.Common.{◌≡◌, ◌∙◌, ap, string_bytes}
 use Rattle.std.proofs.lemmas.Result.{IfErr-weaker, IfOk-weaker}
 use Rattle.script_check.specs.Trees.{script_of}
-use Rattle.protocol_board.specs.Cores.{RunState}
+use Rattle.fault_runs.specs.of_protocol_board.Cores.{RunState}
 use Rattle.raysim_streams.specs.declared.CommandRefusal.TheVariants.{NoMemory}
 use Rattle.run_commands.specs.SimReports.{IsStopOf}
 use Rattle.run_commands.specs.States.{IsBehind, IsStateOf}

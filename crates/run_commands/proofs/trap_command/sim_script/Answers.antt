@@ -1,7 +1,7 @@
 use Rattle.std.proofs.Common.{◌∙◌, ap, string_bytes}
 use Rattle.std.proofs.lemmas.Result.{IfOk-weaker}
 use Rattle.script_check.specs.Trees.{script_of}
-use Rattle.protocol_board.specs.Cores.{RunState}
+use Rattle.fault_runs.specs.of_protocol_board.Cores.{RunState}
 use Rattle.trap_text.specs.Text.{IsTrapTold}
 use Rattle.run_commands.specs.TrapReports.{IsReplayTrap}
 use Rattle.run_commands.proofs.Trapping.{replay_trap_so}

@@ -1,0 +1,7 @@
+use Rattle.std.proofs.Common.{◌≡◌, OnOk, subst}
+use Rattle.protocol.specs.Runs.{leaves_if_free}
+use Rattle.death_steps.proofs.worker_deaths.drop_own_holds.Goals as goal
+
+pub returns : goal.returns
+returns c = λ run e.
+    subst (λ g. OnOk c.leave_if_free.result (c.leave_if_free.new.here ≡ leaves_if_free g)) (c.in_ok-keep_holds_of_others.ensures run e) c.leave_if_free.ensures

@@ -1,6 +1,0 @@
-use Rattle.std.proofs.Common.{◌≡◌, map, take}
-use Rattle.protocol.specs.Runs.{ended_result}
-use Rattle.worker_steps.proofs.runs.ended_results.Given as goal
-
-abbrev pub invariant-loop-content : goal.invariant-loop-content
-invariant-loop-content l = l.results ≡ map ended_result (take l.content-index l.contents)

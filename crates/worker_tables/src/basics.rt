@@ -1,0 +1,111 @@
+// What a worker logs and says.
+
+ghost use Rattle.std.specs.Prelude.{◌≡◌, OnOk, ◌==◌};
+ghost use Rattle.event_log.specs.Entries.{main_attempt};
+ghost use Rattle.protocol.specs.Tables.{has_stopped, knows_dead};
+ghost use Rattle.protocol.specs.Steps.{is_own, logs, says, says_to_node};
+ghost use Rattle.protocol.specs.Runs.{asks_for_slot, gives_slot_back};
+
+use ids::{AttemptId, NodeId, ObjectId, WorkerId};
+use lease::{blocked, log_there, post, unblocked};
+use log_entries::Entry;
+use number_lists::has_worker;
+use protocol_data::{Endpoint, Envelope, Message, Phase, Worker, WorkerContext};
+use std::alloc::{AllocError, Global};
+
+/// One more entry.
+pub fn log(here: &mut WorkerContext, entry: Entry) -> Result<(), AllocError>
+    ensures { OnOk result (here.new ≡ logs here.old entry) }
+{
+    log_there(&mut here.there, entry)
+}
+
+/// The worker sends a message to a worker.
+pub fn say(here: &mut WorkerContext, worker: WorkerId, message: Message) -> Result<(), AllocError>
+    ensures { OnOk result (here.new ≡ says here.old worker message) }
+{
+    let sender = Endpoint::TheWorker(here.me);
+    post(
+        &mut here.there,
+        Envelope {
+            sender,
+            receiver: Endpoint::TheWorker(worker),
+            message,
+        },
+    )
+}
+
+/// The worker sends a message to a node.
+pub fn say_to_node(
+    here: &mut WorkerContext,
+    node: NodeId,
+    message: Message,
+) -> Result<(), AllocError>
+    ensures { OnOk result (here.new ≡ says_to_node here.old node message) }
+{
+    let sender = Endpoint::TheWorker(here.me);
+    post(
+        &mut here.there,
+        Envelope {
+            sender,
+            receiver: Endpoint::TheNode(node),
+            message,
+        },
+    )
+}
+
+/// The worker's slot is given back.
+pub fn give_slot_back(alloc: Global, here: &mut WorkerContext) -> Result<(), AllocError>
+    ensures { OnOk result (here.new ≡ gives_slot_back here.old) }
+{
+    let me = here.me;
+    blocked(alloc, &mut here.there, me)
+}
+
+/// The worker's answered attempt asks for its slot.
+pub fn ask_for_slot(alloc: Global, here: &mut WorkerContext) -> Result<(), AllocError>
+    ensures { OnOk result (here.new ≡ asks_for_slot here.old) }
+{
+    let me = here.me;
+    unblocked(alloc, &mut here.there, me)
+}
+
+/// Whether the worker owns the object.
+pub fn is_own(here: &WorkerContext, object: ObjectId) -> bool
+    ensures { result ≡ is_own here.now object }
+{
+    object.owned_by(here.me)
+}
+
+/// Whether the worker was told that the other is dead.
+pub fn knows_dead(worker: &Worker, other: WorkerId) -> bool
+    ensures { result ≡ knows_dead worker.now other }
+{
+    has_worker(&worker.dead_workers, other)
+}
+
+/// Whether the attempt has ended, by contents or by a fault.
+pub fn has_stopped(phase: &Phase) -> bool
+    ensures { result ≡ has_stopped phase.now }
+{
+    match phase {
+        Phase::HasEnded(_) => true,
+        Phase::HasFaulted(_) => true,
+        Phase::Ready => false,
+        Phase::Out(_) => false,
+        Phase::Waits(..) => false,
+    }
+}
+
+/// Main's attempt, `a1.0#0`: it has no other.
+pub fn main_attempt() -> AttemptId
+    ensures { result ≡ main_attempt }
+{
+    AttemptId {
+        object: ObjectId {
+            owner: WorkerId(1),
+            serial: 0,
+        },
+        number: 0,
+    }
+}

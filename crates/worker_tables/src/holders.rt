@@ -1,0 +1,27 @@
+// Which holders of an object a worker owns.
+
+ghost use Rattle.std.specs.Prelude.{◌≡◌, ◌==◌, IfOk};
+ghost use Rattle.protocol.specs.Tables.{holders_of};
+
+use ids::{ObjectId, WorkerId};
+use number_lists::has_object;
+use protocol_data::Object;
+use sequence::Seq;
+use std::alloc::{AllocError, Global};
+
+/// The holders of the object that the worker owns.
+pub fn holders_of(
+    alloc: Global,
+    object: &Object,
+    worker: WorkerId,
+) -> Result<Seq<ObjectId>, AllocError>
+    ensures { IfOk result (λ holders. holders ≡ holders_of worker object.now) }
+{
+    let mut holders = Seq::new(alloc);
+    for holder in &object.added.items {
+        if holder.owned_by(worker) && !has_object(&object.removed, *holder) {
+            holders.push(*holder)?;
+        }
+    }
+    Ok(holders)
+}

@@ -1,0 +1,60 @@
+// How an owner is told that an attempt of its task stopped.
+
+ghost use Rattle.std.specs.Prelude.{◌≡◌, OnOk, IfOk, Some, map};
+ghost use Rattle.protocol.specs.Runs.{ended_result, tells_stop};
+ghost use Rattle.protocol_data.specs.declared.tables.Execution.{Execution};
+
+use crate::basics::say;
+use crate::contents::{ids_in_content, if_small};
+use held::SharedContent;
+use protocol_data::{EndedResult, Message, Phase, WorkerContext};
+use sequence::Seq;
+use std::alloc::{AllocError, Global};
+
+/// What is told of a result with that content: the ids in it, and itself if it is small.
+fn ended_result(alloc: Global, content: &SharedContent) -> Result<EndedResult, AllocError>
+    ensures { IfOk result (λ r. r ≡ ended_result content.now) }
+{
+    let ids = ids_in_content(alloc, content)?;
+    let kept = if_small(alloc, content)?;
+    Ok(EndedResult { ids, kept })
+}
+
+/// What is told of results with these contents.
+fn ended_results(
+    alloc: Global,
+    contents: &Seq<SharedContent>,
+) -> Result<Seq<EndedResult>, AllocError>
+    ensures { IfOk result (λ rs. rs ≡ map ended_result contents.now) }
+{
+    let mut results = Seq::new(alloc);
+    for content in &contents.items {
+        results.push(ended_result(alloc, content)?)?;
+    }
+    Ok(results)
+}
+
+/// The owner is told how the attempt stopped.
+pub fn tell_stop(alloc: Global, here: &mut WorkerContext) -> Result<(), AllocError>
+    ensures { (run : Execution) → here.old.worker.run ≡ Some run → OnOk result (here.new ≡ tells_stop here.old run run.phase) }
+{
+    let Some(run) = &here.worker.run else {
+        return Ok(());
+    };
+    let attempt = run.attempt;
+    let owner = attempt.owner();
+    match &run.phase {
+        Phase::HasEnded(contents) => {
+            let results = ended_results(alloc, contents)?;
+            let node = here.worker.node;
+            say(here, owner, Message::Finished(attempt, node, results))
+        }
+        Phase::HasFaulted(fault) => {
+            let fault = *fault;
+            say(here, owner, Message::Failed(attempt, fault))
+        }
+        Phase::Ready => Ok(()),
+        Phase::Out(_) => Ok(()),
+        Phase::Waits(..) => Ok(()),
+    }
+}

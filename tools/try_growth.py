@@ -1,16 +1,21 @@
 #!/usr/bin/env python3
 """Tries that what a run costs grows with its events and no faster: tools/try_growth.py PROGRAM [SHAPE..]. For each shape it simulates a script, and the same
-one ten times as large, and compares the processor time of the two processes. No clock is read, so a busy machine changes little. Each shape is for indexes or
-shared lists that a method's contract can't hold to their cost: where one is lost, the large run takes more than so many times the small one's time. The least
-of three runs each counts; a shape above its bound, but not above twice that, is run up to six times more before it fails. The status is 1 where a shape
-fails. --list prints the shapes, --scripts FOLDER writes their scripts."""
+one ten times as large, and compares how many instructions the two processes executed. No time is measured: valgrind counts them, and they come out the same
+on any machine, however busy. Each shape is for indexes or shared lists that a method's contract can't hold to their cost: where one is lost, the large run
+takes more than so many times the small one's instructions. The status is 1 where a shape fails, and 77 where there is no valgrind, so that nothing was tried.
+--list prints the shapes, --scripts FOLDER writes their scripts."""
 import os
+import re
+import shutil
 import subprocess
 import sys
 import tempfile
+from concurrent.futures import ThreadPoolExecutor
 
-TURNS, TRIES, TIMES = 3, 3, 10
-LEAST_SECONDS = 0.01
+TIMES = 10
+NOT_TRIED = 77
+# the large run of a shape takes ten seconds under valgrind
+SECONDS = 1200
 
 
 def rounds(count):
@@ -66,7 +71,7 @@ def copies(count):
 """, 5 * count
 
 
-# a shape's name, its script with main's value, the small run's size, how many times its time the large one may take, and what may be lost
+# a shape's name, its script with main's value, the small run's size, how many times its instructions the large one may take, and what may be lost
 # where it takes more
 SHAPES = [
     ("rounds", rounds, 9, 14, ["where the search for the next message begins", "the marks of a node's asks"]),
@@ -77,37 +82,30 @@ SHAPES = [
 ]
 
 
-def seconds(program, folder, script, value):
-    """Processor time of one simulation, user and system, where main ends with that value; else it ends the program."""
-    words = [program, "sim", script, f"{folder}/settle.ev", "--slots", "4"]
-    with open(f"{folder}/report", "wb") as report:
-        child = subprocess.Popen(words, stdin=subprocess.DEVNULL, stdout=report)
-        _, status, usage = os.wait4(child.pid, 0)
-        child.returncode = os.waitstatus_to_exitcode(status)
-    with open(f"{folder}/report", "rb") as report:
-        if child.returncode or not any(line == f"main value {value}\n".encode() for line in report):
-            sys.exit(f"try_growth: {os.path.basename(script)}: the status is {child.returncode}, or main has not the value {value}")
-    return usage.ru_utime + usage.ru_stime
+def instructions(program, folder, name, size, script, value):
+    """How many instructions one simulation executes, where main ends with that value; else it ends the program."""
+    path = f"{folder}/{name}{size}"
+    with open(f"{path}.ray", "w", encoding="ascii") as file:
+        file.write(script)
+    counter = ["valgrind", "--tool=callgrind", "--callgrind-out-file=/dev/null", f"--log-file={path}.log"]
+    words = [program, "sim", f"{path}.ray", f"{folder}/settle.ev", "--slots", "4"]
+    ran = subprocess.run(counter + words, stdin=subprocess.DEVNULL, capture_output=True, timeout=SECONDS, check=False)
+    with open(f"{path}.log", encoding="utf-8", errors="replace") as file:
+        log = file.read()
+    counted = re.search(r"Collected : ([0-9]+)", log)
+    if ran.returncode or f"main value {value}\n".encode() not in ran.stdout or not counted:
+        sys.exit(f"try_growth: {name}, {size}: the status is {ran.returncode}, main has not the value {value}, or nothing was counted: {log[-600:]}")
+    return int(counted[1])
 
 
 def grows(program, folder, shape):
-    """Whether a shape stays below its bound; prints what it took."""
+    """Whether a shape stays below its bound, and what is told of it."""
     name, script, small, most, lost = shape
-    sizes, least = (small, TIMES * small), {}
-    for size in sizes:
-        with open(f"{folder}/{name}{size}.ray", "w", encoding="ascii") as file:
-            file.write(script(size)[0])
-    for turn in range(TURNS * TRIES):
-        for size in sizes:
-            took = seconds(program, folder, f"{folder}/{name}{size}.ray", script(size)[1])
-            least[size] = min(took, least.get(size, took))
-        ratio = least[sizes[1]] / max(least[small], LEAST_SECONDS)
-        if turn + 1 >= TURNS and not most < ratio < 2 * most:
-            break
-    is_right = ratio <= most
-    told = "" if is_right else f" FAILED: is this lost: {'; '.join(lost)}?"
-    print(f"{name}: {least[small]:.3f} s, ten times as large {least[sizes[1]]:.3f} s: {ratio:.1f} times, at most {most}{told}", flush=True)
-    return is_right
+    counts = [instructions(program, folder, name, size, *script(size)) for size in (small, TIMES * small)]
+    ratio = counts[1] / counts[0]
+    told = "" if ratio <= most else f" FAILED: is this lost: {'; '.join(lost)}?"
+    millions = [f"{count / 1e6:.1f}" for count in counts]
+    return ratio <= most, f"{name}: {millions[0]} million instructions, {TIMES} times as large {millions[1]}: {ratio:.1f} times, at most {most}{told}"
 
 
 def main(words):
@@ -124,10 +122,17 @@ def main(words):
     wanted = [shape for shape in SHAPES if not words[1:] or shape[0] in words[1:]]
     if not words or words[0].startswith("-") or len(wanted) < len(words[1:]):
         sys.exit(__doc__)
+    if not shutil.which("valgrind"):
+        print("try_growth: nothing was tried. Instructions are counted by valgrind, a package of most systems, and there is none on this machine")
+        return NOT_TRIED
     with tempfile.TemporaryDirectory() as folder:
         with open(f"{folder}/settle.ev", "w", encoding="ascii") as file:
             file.write("settle\n")
-        held = [grows(os.path.abspath(words[0]), folder, shape) for shape in wanted]
+        held = []
+        with ThreadPoolExecutor(len(os.sched_getaffinity(0))) as pool:
+            for is_right, told in pool.map(lambda shape: grows(os.path.abspath(words[0]), folder, shape), wanted):
+                held.append(is_right)
+                print(told, flush=True)
     print(f"{sum(held)} of {len(held)} shapes grow as they should")
     return 0 if all(held) else 1
 

@@ -1,8 +1,8 @@
 #!/usr/bin/env python3
 """Tries what no proof says, on the program that the gate just proved: tools/try_program.py FOLDER [LINE]. In the folder stand the program raysim as LLVM
 built it, and beside it, where the toolchain's own compiler built it too, raysim.by-rattle. Each of them is tried by tools/try_files.py, tools/try_hostile.py,
-tools/try_memory.py and tools/try_growth.py. LINE is the last line of `rt ci`, `N passed, M failed`; the last line here is the same with what was tried added.
-The status is 1 where something failed."""
+tools/try_memory.py and tools/try_growth.py. LINE is the last line of `rt ci`, `N passed, M failed`; the last line here is the same with what was tried added:
+what could not be tried for want of a program that the toolchain doesn't bring is told, and is in neither number. The status is 1 where something failed."""
 import os
 import re
 import subprocess
@@ -13,16 +13,18 @@ TRIES = [("try_files.py", []), ("try_hostile.py", ["--gate"]), ("try_memory.py",
 BUILDS = ["raysim", "raysim.by-rattle"]
 # each takes less than a minute on a quiet machine
 SECONDS = 1200
+# a tool's status where it found nothing wrong, and where it tried nothing
+PASSED, NOT_TRIED = 0, 77
 
 
-def passes(tool, program, words):
-    """Whether a tool finds nothing wrong with a program; what it says goes where this one's goes."""
+def status_of(tool, program, words):
+    """A tool's status on a program; what it says goes where this one's goes."""
     print(f"== tools/{tool} {program} {' '.join(words)}".rstrip(), flush=True)
     try:
-        return subprocess.run([sys.executable, f"{TOOLS}/{tool}", program, *words], stdin=subprocess.DEVNULL, timeout=SECONDS, check=False).returncode == 0
+        return subprocess.run([sys.executable, f"{TOOLS}/{tool}", program, *words], stdin=subprocess.DEVNULL, timeout=SECONDS, check=False).returncode
     except subprocess.TimeoutExpired:
         print(f"try_program: tools/{tool} had not ended after {SECONDS} seconds", flush=True)
-        return False
+        return None
 
 
 def main(words):
@@ -42,9 +44,10 @@ def main(words):
             print(f"try_program: note: there is no {program}, since only LLVM built the program", flush=True)
             continue
         for tool, more in TRIES:
-            if passes(tool, program, more):
+            status = status_of(tool, program, more)
+            if status == PASSED:
                 passed += 1
-            else:
+            elif status != NOT_TRIED:
                 failed += 1
                 print(f"try_program: tools/{tool} FAILED on {program}", flush=True)
     print(f"{passed} passed, {failed} failed")

@@ -74,11 +74,11 @@ def copies(count):
 # a shape's name, its script with main's value, the small run's size, how many times its instructions the large one may take, and what may be lost
 # where it takes more
 SHAPES = [
-    ("rounds", rounds, 9, 14, ["where the search for the next message begins", "the marks of a node's asks"]),
-    ("chains", chains, 7, 14, ["which objects may have come to be releasable"]),
-    ("copies", copies, 400, 16, ["the shelves of the primary copies at a node"]),
-    ("gets", gets, 900, 14, ["that a job shares its attempt's births", "that it shares its answers"]),
-    ("prints", printing, 900, 15, ["that a job shares its attempt's prints"]),
+    ("rounds", rounds, 9, 12, ["where the search for the next message begins", "the marks of a node's asks"]),
+    ("chains", chains, 7, 12, ["which objects may have come to be releasable"]),
+    ("copies", copies, 400, 15, ["the shelves of the primary copies at a node"]),
+    ("gets", gets, 900, 13, ["that a job shares its attempt's births", "that it shares its answers", "the bounds of the attempts that a worker began"]),
+    ("prints", printing, 900, 14, ["that a job shares its attempt's prints"]),
 ]
 
 

@@ -9,6 +9,7 @@ use crate::kept::Kept;
 use crate::next_line::{Next, next_recorded};
 use event_files::RecordedEvent;
 use raysim_streams::{CommandRefusal, Source};
+use sequence::refused_growth;
 use std::alloc::Global;
 
 /// The lines that are left behind the first line, where some bytes were read ahead.
@@ -30,5 +31,5 @@ pub fn events_left<R: Source>(
             Next::Said(said) => kept.keep(said, number as usize, true)?,
         }
     }
-    Err(CommandRefusal::NoMemory)
+    Err(CommandRefusal::from(refused_growth(alloc)))
 }

@@ -9,6 +9,7 @@ use crate::kept::{Kept, MOST_SETTLED};
 use crate::next_line::{Next, next_line};
 use event_files::Line;
 use raysim_streams::{CommandRefusal, Source};
+use sequence::refused_growth;
 use std::alloc::Global;
 
 fn is_event(line: &Line) -> bool {
@@ -39,7 +40,7 @@ pub fn lines_left<R: Source>(
             }
         }
     }
-    Err(CommandRefusal::NoMemory)
+    Err(CommandRefusal::from(refused_growth(alloc)))
 }
 
 /// Reads a file of format 1. Behind 100,001 events nothing is kept, and nothing of the lines that are passed over.

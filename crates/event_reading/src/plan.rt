@@ -9,7 +9,7 @@ ghost use Rattle.event_reading.specs.Known.{left_of};
 use crate::next_line::{Next, next_plan_line};
 use event_files::RunPlan;
 use raysim_streams::{CommandRefusal, Source};
-use sequence::Seq;
+use sequence::{Seq, refused_growth};
 use std::alloc::Global;
 
 /// How many lines a plan may have that say something; one with more is refused 41.
@@ -40,7 +40,7 @@ fn plan_left<R: Source>(
             }
         }
     }
-    Err(CommandRefusal::NoMemory)
+    Err(CommandRefusal::from(refused_growth(alloc)))
 }
 
 /// Reads a plan. Nothing is kept of the lines that are passed over.

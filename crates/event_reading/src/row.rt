@@ -6,6 +6,7 @@ ghost use Rattle.event_reading.specs.Rows.{IsLineRead, IsNextRow};
 
 use crate::ahead::next_byte;
 use raysim_streams::{CommandRefusal, Source};
+use sequence::refused_growth;
 use std::alloc::Global;
 
 /// Where a line ends, as far as it was read.
@@ -77,7 +78,11 @@ fn pass_over<R: Source>(reader: &mut R, ahead: &mut Vec<u8>) -> Result<LineEnd, 
 }
 
 /// A line that begins with `#`, behind that.
-fn passed_row<R: Source>(reader: &mut R, ahead: &mut Vec<u8>) -> Result<Row, CommandRefusal>
+fn passed_row<R: Source>(
+    alloc: Global,
+    reader: &mut R,
+    ahead: &mut Vec<u8>,
+) -> Result<Row, CommandRefusal>
     ensures passed { (most : ℕ) → IfOk result (λ row. IfKnown (left_of ahead.old.items (R.left reader.old)) (left_of ahead.new.items (R.left reader.new))
         (λ b r. IsNextRow most row (35 ∷ b) r)) }
     ensures refused { IfErr result (IsReadRefusal (R.failures reader.old, R.failures reader.new)) }
@@ -86,7 +91,7 @@ fn passed_row<R: Source>(reader: &mut R, ahead: &mut Vec<u8>) -> Result<Row, Com
     match pass_over(reader, ahead)? {
         LineEnd::Feed => Ok(Row::Passed),
         LineEnd::Nothing => Ok(Row::Unended),
-        LineEnd::Cut => Err(CommandRefusal::NoMemory),
+        LineEnd::Cut => Err(CommandRefusal::from(refused_growth(alloc))),
     }
 }
 
@@ -132,7 +137,7 @@ pub fn next_row<R: Source>(
         return Ok(Row::Passed);
     }
     if first == b'#' {
-        let row = passed_row(reader, ahead)?;
+        let row = passed_row(alloc, reader, ahead)?;
         return Ok(row);
     }
     let row = said_row(alloc, reader, ahead, first, most)?;

@@ -17,7 +17,7 @@ use Rattle.protocol.specs.Cluster.{ClusterState, worker_at}
 use Rattle.protocol_laws.specs.Shown.{IsAsShown}
 use Rattle.protocol_core.specs.declared.reply.Reply as coded
 use Rattle.protocol_core.specs.declared.reply.Reply.TheVariants as replies
-use Rattle.protocol_core.specs.States.{RunState, beside}
+use Rattle.protocol_core.specs.States.{RunState, beside, nothing_left}
 
 -- the attempt is out as the job of that number
 pub record IsOutAs (c : ClusterState) (j : ℕ) (run : Execution) : Type 0 where
@@ -63,12 +63,13 @@ reply_of (replies.Job j) = GivesJob j
 reply_of replies.Ok = Accepts
 reply_of (replies.Refused refusal) = Refuses refusal
 
--- the event found no memory: it is refused 39, no later one is accepted, and the log is as it was
+-- the event found no memory: it is refused 39, no later one is accepted, the log is as it was, and nothing is left of all else
 pub record RunsOut (before after : RunState) (told : Reply) : Type 0 where
   pub told_so : told ≡ Refuses refusals.NoMemory
   pub halted : after.is_halted ≡ true
   pub nodes : after.first_nodes ≡ before.first_nodes
   pub same : after.log ≡ before.log
+  pub left : after.whole ≡ nothing_left
 
 -- the event, with its seat and what was handed in, was taken or refused as the pure step says, and stands in the log with what came of it
 pub record IsApplied (before after : RunState) (e : Event) (seat : ℕ) (handed : CommitInput) (told : Reply) : Type 0 where

@@ -110,8 +110,8 @@ impl<S: ScriptName> Core<S> {
     /// One event, with the seat from which it comes. With a commit comes what was done on its job, if anything was.
     ///
     /// A claim answers the job that is given out, any other event `Ok`. Refused are the events of docs/protocol.md, which change nothing
-    /// but the log, in which the event and its refusal stand; `NoMemory`, which leaves the log as it was and halts the run; and `Halted`,
-    /// which every later event is answered, and which changes nothing.
+    /// but the log, in which the event and its refusal stand; `NoMemory`, which leaves the log as it was, lets go of workers, nodes, messages
+    /// and jobs, and halts the run; and `Halted`, which every later event is answered, and which changes nothing.
     pub fn apply(
         &mut self,
         alloc: Global,

@@ -3,7 +3,7 @@
 ghost use Rattle.std.specs.Prelude.{◌≡◌, ◌++◌, ◌∷◌, IfOk, OnOk, OnErr, take, true};
 ghost use Rattle.event_log.specs.Legal.{opening};
 ghost use Rattle.protocol_core.specs.Clusters.{IsCluster};
-ghost use Rattle.protocol_core.specs.States.{first_state};
+ghost use Rattle.protocol_core.specs.States.{first_state, nothing_left};
 ghost use Rattle.protocol_core.specs.Views.{state_of};
 
 use crate::cluster::Cluster;
@@ -13,6 +13,7 @@ use log_entries::Entry;
 use protocol_data::ClusterState;
 use sequence::Seq;
 use std::alloc::{AllocError, Global};
+use std::mem;
 
 /// Workers, nodes and messages beside the log, how many nodes there were at first, and whether an event found no memory.
 #[derive(Drop)]
@@ -69,6 +70,21 @@ fn add_both(log: &mut Seq<Entry>, own: Entry, more: Seq<Entry>) -> Result<(), Al
     Ok(())
 }
 
+/// No worker, node, message or job.
+fn nothing_left(alloc: Global) -> ClusterState
+    ensures { result ≡ nothing_left }
+{
+    ClusterState {
+        slots: 0,
+        nodes: Seq::new(alloc),
+        workers: Seq::new(alloc),
+        made: 0,
+        network: Seq::new(alloc),
+        delivered: Seq::new(alloc),
+        jobs: Seq::new(alloc),
+    }
+}
+
 impl State {
     /// A run that begins, on these nodes.
     pub fn new(alloc: Global, cluster: Cluster) -> Result<State, AllocError>
@@ -96,10 +112,11 @@ impl State {
         add_both(&mut self.log, own, more)
     }
 
-    /// An event found no memory.
-    pub fn halt(&mut self)
-        ensures { self.new ≡ record self.old { is_halted = true } }
+    /// An event found no memory. What it left of workers, nodes, messages and jobs, which may be half changed, is let go of.
+    pub fn halt(&mut self, alloc: Global)
+        ensures { self.new ≡ record self.old { whole = nothing_left; is_halted = true } }
     {
+        drop(mem::replace(&mut self.whole, nothing_left(alloc)));
         self.is_halted = true;
     }
 }

@@ -26,10 +26,10 @@ use segment::{Done, Job, ScriptName};
 use std::alloc::{AllocError, Global};
 
 /// An event that found no memory.
-fn run_out<S: ScriptName>(state: &mut State) -> Reply<S>
+fn run_out<S: ScriptName>(alloc: Global, state: &mut State) -> Reply<S>
     ensures { RunsOut (state_of state.old) (state_of state.new) (reply_of result) }
 {
-    state.halt();
+    state.halt(alloc);
     Reply::Refused(Refusal::NoMemory)
 }
 
@@ -89,7 +89,7 @@ fn taken<S: ScriptName>(
 {
     match try_step(alloc, state, event, seat, done, is_own) {
         Ok(told) => told,
-        Err(_) => run_out(state),
+        Err(_) => run_out(alloc, state),
     }
 }
 

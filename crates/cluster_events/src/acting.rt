@@ -9,10 +9,11 @@ ghost use Rattle.worker_acts.specs.Acts.{act_step};
 ghost use Rattle.cluster_events.specs.Kept.{IsKept, IsLeft, put_into};
 
 use crate::counting::{fits, nothing};
-use cluster_steps::{blank_here, exchange, node_place, put_worker, take_worker, worker_place};
+use cluster_steps::{enter, leave, node_place, worker_place};
 use ids::{NodeId, WorkerId};
 use log_entries::Entry;
-use protocol_data::{ClusterState, Node, Worker, WorkerContext};
+use protocol_data::{ClusterState, Node, Outbox, Worker, WorkerContext};
+use row::Row;
 use sequence::Seq;
 use std::alloc::{AllocError, Global};
 use worker_acts::{Act, take_part};
@@ -21,6 +22,7 @@ use worker_acts::{Act, take_part};
 pub fn act(
     alloc: Global,
     whole: &mut ClusterState,
+    here: &mut WorkerContext,
     number: WorkerId,
     what: &Act,
 ) -> Result<Seq<Entry>, AllocError>
@@ -34,15 +36,9 @@ pub fn act(
     let Some(node_place) = node_place(whole, node) else {
         return Ok(Seq::new(alloc));
     };
-    let mut here = blank_here(alloc, whole, number, node);
-    exchange(whole, place, node_place, &mut here);
-    match take_part(alloc, &mut here, what) {
-        Ok(()) => put_worker(alloc, whole, place, node_place, number, node, here),
-        Err(error) => {
-            drop(here);
-            Err(error)
-        }
-    }
+    enter(whole, place, node_place, number, node, here);
+    take_part(alloc, here, what)?;
+    leave(alloc, whole, place, node_place, number, node, here)
 }
 
 /// A worker and its node as they were.
@@ -76,42 +72,18 @@ fn keep(
 }
 
 /// What was kept stands in its place again.
-fn put_again(whole: &mut ClusterState, place: usize, node_place: usize, kept: Kept)
-    requires worker { place < length whole.old.workers }
-    requires node { node_place < length whole.old.nodes }
-    ensures { whole.new ≡ record whole.old { workers = slice_set whole.old.workers place kept.worker; nodes = slice_set whole.old.nodes node_place kept.node } }
-{
-    whole.workers.set(place, kept.worker);
-    whole.nodes.set(node_place, kept.node);
-}
-
-/// The worker and its node are put back with what they made, or as they were where a limit would be passed.
-fn put_within(
+fn put_again(
     alloc: Global,
     whole: &mut ClusterState,
     place: usize,
     node_place: usize,
-    number: WorkerId,
-    node: NodeId,
-    here: WorkerContext,
     kept: Kept,
-    made: u64,
-) -> Result<Option<Seq<Entry>>, AllocError>
-    requires place_in { place < length whole.old.workers }
-    requires number { number ≡ 1 + place }
-    requires node_place_in { node_place < length whole.old.nodes }
-    requires node_number { node ≡ 1 + node_place }
-    ensures whole { (c : ClusterState) → IsLeft kept c place node_place whole.old → OnOk result (whole.new ≡ put_into made c whole.old number node here) }
-    ensures entries { IfOk result (λ given. given ≡ entries_within made (after_worker whole.old number node here)) }
-{
-    if fits(whole, u64::from(here.there.opened), made) {
-        drop(kept);
-        let entries = put_worker(alloc, whole, place, node_place, number, node, here)?;
-        return Ok(Some(entries));
-    }
-    drop(here);
-    put_again(whole, place, node_place, kept);
-    Ok(None)
+) -> Result<(), AllocError> {
+    let worker = Row::new(alloc, kept.worker)?;
+    let node = Row::new(alloc, kept.node)?;
+    whole.workers.set(place, worker);
+    whole.nodes.set(node_place, node);
+    Ok(())
 }
 
 /// The worker of that number does its part in an event, after which there are so many objects. The worker and its node are kept meanwhile: where
@@ -119,6 +91,7 @@ fn put_within(
 pub fn act_or_restore(
     alloc: Global,
     whole: &mut ClusterState,
+    here: &mut WorkerContext,
     number: WorkerId,
     what: &Act,
     made: u64,
@@ -134,15 +107,24 @@ pub fn act_or_restore(
         return Ok(nothing(alloc, whole, made));
     };
     let kept = keep(alloc, whole, place, node_place)?;
-    let mut here = take_worker(alloc, whole, place, node_place, number, node);
-    match take_part(alloc, &mut here, what) {
-        Ok(()) => put_within(
-            alloc, whole, place, node_place, number, node, here, kept, made,
-        ),
-        Err(error) => {
-            drop(here);
-            drop(kept);
-            Err(error)
-        }
+    enter(whole, place, node_place, number, node, here);
+    take_part(alloc, here, what)?;
+    if fits(whole, u64::from(here.there.opened), made) {
+        drop(kept);
+        let entries = leave(alloc, whole, place, node_place, number, node, here)?;
+        return Ok(Some(entries));
+    }
+    here.there.out = no_out_of(alloc);
+    here.there.opened = 0;
+    let entries = leave(alloc, whole, place, node_place, number, node, here)?;
+    drop(entries);
+    put_again(alloc, whole, place, node_place, kept)?;
+    Ok(None)
+}
+
+fn no_out_of(alloc: Global) -> Outbox {
+    Outbox {
+        entries: Seq::new(alloc),
+        envelopes: Seq::new(alloc),
     }
 }

@@ -11,8 +11,9 @@ use protocol_data::{
     Asks, Attempts, ClusterState, Copies, Node, NodeContext, Objects, Outbox, Queue, Scheduler,
     Secondaries, Store, Worker, WorkerContext,
 };
+use row::Row;
 use sequence::Seq;
-use std::alloc::Global;
+use std::alloc::{AllocError, Global};
 use std::mem;
 
 /// Nothing was made yet.
@@ -63,39 +64,7 @@ pub fn new_worker(alloc: Global, node: NodeId) -> Worker
     }
 }
 
-/// A node with nothing, in an event of the node of that number.
-#[inline(always)]
-fn blank_there(alloc: Global, whole: &ClusterState, number: NodeId) -> NodeContext
-    ensures { result ≡ there whole.now number (new_node 0) }
-{
-    NodeContext {
-        number,
-        nodes: whole.nodes.len() as u64,
-        workers: whole.workers.len() as u64,
-        opened: 0,
-        node: new_node(alloc, 0),
-        out: no_out(alloc),
-    }
-}
-
-/// A worker and its node with nothing, in an event of the worker and the node of those numbers.
-#[inline(always)]
-pub fn blank_here(
-    alloc: Global,
-    whole: &ClusterState,
-    number: WorkerId,
-    node: NodeId,
-) -> WorkerContext
-    ensures { result ≡ record { me = number; worker = new_worker 0; there = there whole.now node (new_node 0) } }
-{
-    WorkerContext {
-        me: number,
-        worker: new_worker(alloc, NodeId(0)),
-        there: blank_there(alloc, whole, node),
-    }
-}
-
-/// The node at that place changes places with the one in the event: so it is copied once each way, and no more.
+/// The node at that place changes places with the one in the event.
 #[inline(always)]
 fn exchange_node(whole: &mut ClusterState, place: usize, there: &mut NodeContext)
     requires { place < length whole.old.nodes }
@@ -119,64 +88,62 @@ fn exchange_worker(whole: &mut ClusterState, place: usize, here: &mut WorkerCont
     mem::swap(&mut workers.items[place], &mut here.worker);
 }
 
-/// The worker at that place and the node at the other change places with those in the event.
+/// The node at that place changes places with the one that stands in, and is in an event.
 #[inline(always)]
-pub fn exchange(whole: &mut ClusterState, place: usize, node_place: usize, here: &mut WorkerContext)
-    requires worker { place < length whole.old.workers }
-    requires node { node_place < length whole.old.nodes }
-    ensures worker_taken { slice_get whole.old.workers place ≡ Some here.new.worker }
-    ensures node_taken { slice_get whole.old.nodes node_place ≡ Some here.new.there.node }
-    ensures here { here.new ≡ record here.old { worker = here.new.worker; there = record here.old.there { node = here.new.there.node } } }
-    ensures left { whole.new ≡ record whole.old {
-      workers = slice_set whole.old.workers place here.old.worker;
-      nodes = slice_set whole.old.nodes node_place here.old.there.node;
-    } }
-{
-    exchange_worker(whole, place, here);
-    exchange_node(whole, node_place, &mut here.there);
-}
-
-/// The node at that place, in an event, for which a node with nothing stands in.
-#[inline(always)]
-pub fn take_node(
-    alloc: Global,
-    whole: &mut ClusterState,
-    place: usize,
-    number: NodeId,
-) -> NodeContext
+pub fn enter_node(whole: &mut ClusterState, place: usize, number: NodeId, there: &mut NodeContext)
     requires { place < length whole.old.nodes }
-    ensures taken { slice_get whole.old.nodes place ≡ Some result.node }
-    ensures there { result ≡ there whole.old number result.node }
-    ensures left { whole.new ≡ record whole.old { nodes = slice_set whole.old.nodes place (new_node 0) } }
+    ensures taken { slice_get whole.old.nodes place ≡ Some there.new.node }
+    ensures there { there.new ≡ there whole.old number there.new.node }
+    ensures left { whole.new ≡ record whole.old { nodes = slice_set whole.old.nodes place there.old.node } }
 {
-    let mut there = blank_there(alloc, whole, number);
-    exchange_node(whole, place, &mut there);
-    there
+    there.number = number;
+    there.nodes = whole.nodes.len() as u64;
+    there.workers = whole.workers.len() as u64;
+    there.opened = 0;
+    there.out.entries.items.clear();
+    there.out.envelopes.items.clear();
+    exchange_node(whole, place, there);
 }
 
-/// The worker at that place and its node, in an event, for which ones with nothing stand in.
+/// The worker at that place and its node change places with those that stand in, and are in an event.
 #[inline(always)]
-pub fn take_worker(
-    alloc: Global,
+pub fn enter(
     whole: &mut ClusterState,
     place: usize,
     node_place: usize,
     number: WorkerId,
     node: NodeId,
-) -> WorkerContext
+    here: &mut WorkerContext,
+)
     requires worker { place < length whole.old.workers }
     requires node { node_place < length whole.old.nodes }
-    ensures worker_taken { slice_get whole.old.workers place ≡ Some result.worker }
-    ensures node_taken { slice_get whole.old.nodes node_place ≡ Some result.there.node }
-    ensures here { result ≡ record { me = number; worker = result.worker; there = there whole.old node result.there.node } }
+    ensures worker_taken { slice_get whole.old.workers place ≡ Some here.new.worker }
+    ensures node_taken { slice_get whole.old.nodes node_place ≡ Some here.new.there.node }
+    ensures here { here.new ≡ record { me = number; worker = here.new.worker; there = there whole.old node here.new.there.node } }
     ensures left { whole.new ≡ record whole.old {
-      workers = slice_set whole.old.workers place (new_worker 0);
-      nodes = slice_set whole.old.nodes node_place (new_node 0);
+      workers = slice_set whole.old.workers place here.old.worker;
+      nodes = slice_set whole.old.nodes node_place here.old.there.node;
     } }
 {
-    let mut here = blank_here(alloc, whole, number, node);
-    exchange(whole, place, node_place, &mut here);
-    here
+    here.me = number;
+    exchange_worker(whole, place, here);
+    enter_node(whole, node_place, node, &mut here.there);
+}
+
+/// What stands in for workers and nodes that are in an event.
+pub fn stand_in(alloc: Global) -> Result<WorkerContext, AllocError> {
+    Ok(WorkerContext {
+        me: WorkerId(0),
+        worker: Row::new(alloc, new_worker(alloc, NodeId(0)))?,
+        there: NodeContext {
+            number: NodeId(0),
+            nodes: 0,
+            workers: 0,
+            opened: 0,
+            node: Row::new(alloc, new_node(alloc, 0))?,
+            out: no_out(alloc),
+        },
+    })
 }
 
 /// Where the node of that number stands, counted from 0; none where there never was one.

@@ -8,9 +8,10 @@ ghost use Rattle.protocol_core.specs.Views.{state_of};
 
 use crate::cluster::Cluster;
 use crate::opening::first_whole;
+use cluster_steps::stand_in;
 use ids::{AttemptId, NodeId, ObjectId, WorkerId};
 use log_entries::Entry;
-use protocol_data::ClusterState;
+use protocol_data::{ClusterState, WorkerContext};
 use sequence::Seq;
 use std::alloc::{AllocError, Global};
 use std::mem;
@@ -20,6 +21,8 @@ use std::mem;
 pub struct State {
     /// Workers, nodes, messages and jobs.
     pub whole: ClusterState,
+    /// What stands in for a worker and its node while they are in an event.
+    pub here: WorkerContext,
     /// The entries so far, oldest first.
     pub log: Seq<Entry>,
     /// How many nodes there were at first, from 1 to 64.
@@ -95,6 +98,7 @@ impl State {
         let whole = first_whole(alloc, first_nodes, cluster.slots())?;
         Ok(State {
             whole,
+            here: stand_in(alloc)?,
             log,
             first_nodes,
             is_halted: false,

@@ -8,7 +8,7 @@ pub returns-then-next-count : goal.returns-then-next-count
 returns-then-next-count c =
     sym (passed_all _ _ _ _ c.next_place-next.ensures.on (omega (arith, c.if-next-count.true)) c.next_place-next.ensures.none)
     ∙ c.loop-turn.invariant.0
-    ∙ ap (λ n. each_from (λ g k. releases_by g k (own_object g k)) c.args.here.now 1 n) c.len-count.ensures.len
+    ∙ ap (λ n. each_from (λ g k. releases_by g k (own_object g k)) c.args.here.now 1 n) c.count_of-count.ensures.len
 
 pub loop-turn-preserved : goal.loop-turn-preserved
 loop-turn-preserved c = (

@@ -1,26 +1,29 @@
-// Workers that do their part in an event. Where a worker, a node or both are let go of, a call of `drop` does it: what ends with its scope is let go
-// of field by field on each way out, and to prove that takes minutes.
+// Workers that do their part in an event.
 
 ghost use Rattle.std.specs.Prelude.{◌≡◌, ◌<◌, ◌+◌, IfOk, OnOk, Some, length, slice_get, slice_set};
 ghost use Rattle.step_laws.specs.Limits.{entries_within, whole_within};
 ghost use Rattle.protocol.specs.Cluster.{after_worker, worker_does};
 ghost use Rattle.protocol_data.specs.declared.cluster_state.ClusterState.{ClusterState};
+ghost use Rattle.protocol_data.specs.declared.node.Node.{Node};
+ghost use Rattle.protocol_data.specs.declared.tables.Worker.{Worker};
 ghost use Rattle.worker_acts.specs.Acts.{act_step};
 ghost use Rattle.cluster_events.specs.Kept.{IsKept, IsLeft, put_into};
 
 use crate::counting::{fits, nothing};
-use cluster_steps::{blank_here, exchange, node_place, put_worker, take_worker, worker_place};
+use cluster_steps::{enter, exchange, leave, node_place, worker_place};
 use ids::{NodeId, WorkerId};
 use log_entries::Entry;
 use protocol_data::{ClusterState, Node, Worker, WorkerContext};
+use row::Row;
 use sequence::Seq;
 use std::alloc::{AllocError, Global};
 use worker_acts::{Act, take_part};
 
-/// The worker of that number does its part in an event. The entries that this adds are given back.
+/// The worker of that number does its part in an event, in the context. The entries that this adds are given back.
 pub fn act(
     alloc: Global,
     whole: &mut ClusterState,
+    here: &mut WorkerContext,
     number: WorkerId,
     what: &Act,
 ) -> Result<Seq<Entry>, AllocError>
@@ -34,24 +37,18 @@ pub fn act(
     let Some(node_place) = node_place(whole, node) else {
         return Ok(Seq::new(alloc));
     };
-    let mut here = blank_here(alloc, whole, number, node);
-    exchange(whole, place, node_place, &mut here);
-    match take_part(alloc, &mut here, what) {
-        Ok(()) => put_worker(alloc, whole, place, node_place, number, node, here),
-        Err(error) => {
-            drop(here);
-            Err(error)
-        }
-    }
+    enter(whole, place, node_place, number, node, here);
+    take_part(alloc, here, what)?;
+    leave(alloc, whole, place, node_place, number, node, here)
 }
 
 /// A worker and its node as they were.
 #[derive(Drop)]
 pub struct Kept {
     /// The worker's tables before the event.
-    pub worker: Worker,
+    pub worker: Row<Worker>,
     /// Its node's tables before the event.
-    pub node: Node,
+    pub node: Row<Node>,
 }
 
 /// The worker and its node are kept.
@@ -65,9 +62,12 @@ fn keep(
     requires node { node_place < length whole.now.nodes }
     ensures { IfOk result (λ kept. IsKept kept whole.now place node_place) }
 {
-    let worker = whole.workers.get(place).copy(alloc)?;
+    let worker = Row::new(alloc, whole.workers.get(place).copy(alloc)?)?;
     match whole.nodes.get(node_place).copy(alloc) {
-        Ok(node) => Ok(Kept { worker, node }),
+        Ok(node) => Ok(Kept {
+            worker,
+            node: Row::new(alloc, node)?,
+        }),
         Err(error) => {
             drop(worker);
             Err(error)
@@ -93,7 +93,7 @@ fn put_within(
     node_place: usize,
     number: WorkerId,
     node: NodeId,
-    here: WorkerContext,
+    here: &mut WorkerContext,
     kept: Kept,
     made: u64,
 ) -> Result<Option<Seq<Entry>>, AllocError>
@@ -101,15 +101,15 @@ fn put_within(
     requires number { number ≡ 1 + place }
     requires node_place_in { node_place < length whole.old.nodes }
     requires node_number { node ≡ 1 + node_place }
-    ensures whole { (c : ClusterState) → IsLeft kept c place node_place whole.old → OnOk result (whole.new ≡ put_into made c whole.old number node here) }
-    ensures entries { IfOk result (λ given. given ≡ entries_within made (after_worker whole.old number node here)) }
+    ensures whole { (c : ClusterState) (w : Worker) (n : Node) → IsLeft kept c place node_place w n whole.old → OnOk result (whole.new ≡ put_into made c whole.old number node here.old) }
+    ensures entries { IfOk result (λ given. given ≡ entries_within made (after_worker whole.old number node here.old)) }
 {
     if fits(whole, u64::from(here.there.opened), made) {
         drop(kept);
-        let entries = put_worker(alloc, whole, place, node_place, number, node, here)?;
+        let entries = leave(alloc, whole, place, node_place, number, node, here)?;
         return Ok(Some(entries));
     }
-    drop(here);
+    exchange(whole, place, node_place, here);
     put_again(whole, place, node_place, kept);
     Ok(None)
 }
@@ -119,6 +119,7 @@ fn put_within(
 pub fn act_or_restore(
     alloc: Global,
     whole: &mut ClusterState,
+    here: &mut WorkerContext,
     number: WorkerId,
     what: &Act,
     made: u64,
@@ -134,13 +135,12 @@ pub fn act_or_restore(
         return Ok(nothing(alloc, whole, made));
     };
     let kept = keep(alloc, whole, place, node_place)?;
-    let mut here = take_worker(alloc, whole, place, node_place, number, node);
-    match take_part(alloc, &mut here, what) {
+    enter(whole, place, node_place, number, node, here);
+    match take_part(alloc, here, what) {
         Ok(()) => put_within(
             alloc, whole, place, node_place, number, node, here, kept, made,
         ),
         Err(error) => {
-            drop(here);
             drop(kept);
             Err(error)
         }

@@ -9,7 +9,8 @@ use crate::counting::{fits, nothing, opened_by_death};
 use cluster_steps::{forget_at_node, new_node, node_place, worker_place};
 use ids::{NodeId, WorkerId};
 use log_entries::Entry;
-use protocol_data::{ClusterState, Worker};
+use protocol_data::{ClusterState, NodeContext, Worker};
+use row::Row;
 use sequence::Seq;
 use std::alloc::{AllocError, Global};
 use std::mem;
@@ -29,6 +30,7 @@ fn mark_dead(whole: &mut ClusterState, place: usize, number: WorkerId)
 pub fn kill(
     alloc: Global,
     whole: &mut ClusterState,
+    there: &mut NodeContext,
     number: WorkerId,
 ) -> Result<Option<Seq<Entry>>, AllocError>
     ensures whole { OnOk result (whole.new ≡ whole_limited whole.old (killed whole.old number)) }
@@ -43,12 +45,12 @@ pub fn kill(
         return Ok(None);
     }
     mark_dead(whole, place, number);
-    let entries = forget_at_node(alloc, whole, node, number)?;
+    let entries = forget_at_node(alloc, whole, there, node, number)?;
     Ok(Some(entries))
 }
 
 /// The worker dies where it is the node's.
-fn die_with(worker: Worker, node: NodeId) -> Worker
+fn die_with(worker: Row<Worker>, node: NodeId) -> Row<Worker>
     ensures { result ≡ dies_with node worker }
 {
     let mut worker = worker;
@@ -61,9 +63,9 @@ fn die_with(worker: Worker, node: NodeId) -> Worker
 /// These workers, of which those of the node are dead.
 fn all_die_with(
     alloc: Global,
-    workers: Seq<Worker>,
+    workers: Seq<Row<Worker>>,
     node: NodeId,
-) -> Result<Seq<Worker>, AllocError>
+) -> Result<Seq<Row<Worker>>, AllocError>
     ensures { IfOk result (λ xs. xs ≡ map (dies_with node) workers) }
 {
     let mut others = Seq::new(alloc);
@@ -132,6 +134,6 @@ pub fn join(alloc: Global, whole: &mut ClusterState) -> Result<Option<Seq<Entry>
         return Ok(None);
     }
     let slots = whole.slots;
-    whole.nodes.push(new_node(alloc, slots))?;
+    whole.nodes.push(Row::new(alloc, new_node(alloc, slots))?)?;
     Ok(Some(Seq::new(alloc)))
 }

@@ -10,7 +10,7 @@ use crate::node_events::deliver_to_node_within;
 use crate::within_limits::let_act;
 use log_entries::Entry;
 use number_lists::{item_at_number, place_of};
-use protocol_data::{ClusterState, Endpoint, Envelope, Message};
+use protocol_data::{ClusterState, Endpoint, Envelope, Message, WorkerContext};
 use refusals::{is_live_node, is_live_worker};
 use sequence::Seq;
 use std::alloc::{AllocError, Global};
@@ -43,6 +43,7 @@ fn copy_endpoint(endpoint: &Endpoint) -> Endpoint
 fn hand_over(
     alloc: Global,
     whole: &mut ClusterState,
+    here: &mut WorkerContext,
     envelope: Envelope,
 ) -> Result<Option<Seq<Entry>>, AllocError>
     ensures whole { OnOk result (whole.new ≡ whole_limited whole.old (delivered_to whole.old envelope envelope.receiver)) }
@@ -59,13 +60,20 @@ fn hand_over(
             if !is_live_worker(whole, worker) {
                 return Ok(nothing(alloc, whole, made));
             }
-            let_act(alloc, whole, worker, &Act::Receive(sender, message), made)
+            let_act(
+                alloc,
+                whole,
+                here,
+                worker,
+                &Act::Receive(sender, message),
+                made,
+            )
         }
         Endpoint::TheNode(node) => {
             if !is_live_node(whole, node) {
                 return Ok(nothing(alloc, whole, made));
             }
-            deliver_to_node_within(alloc, whole, node, sender, &message)
+            deliver_to_node_within(alloc, whole, &mut here.there, node, sender, &message)
         }
     }
 }
@@ -84,6 +92,7 @@ fn mark(whole: &mut ClusterState, place: usize)
 pub fn deliver(
     alloc: Global,
     whole: &mut ClusterState,
+    here: &mut WorkerContext,
     number: u64,
 ) -> Result<Option<Seq<Entry>>, AllocError>
     ensures whole { OnOk result (whole.new ≡ whole_limited whole.old (delivered whole.old number)) }
@@ -94,9 +103,9 @@ pub fn deliver(
     };
     let envelope = copy_envelope(alloc, envelope)?;
     let Some(place) = place_of(number, whole.delivered.len()) else {
-        return hand_over(alloc, whole, envelope);
+        return hand_over(alloc, whole, here, envelope);
     };
-    let Some(entries) = hand_over(alloc, whole, envelope)? else {
+    let Some(entries) = hand_over(alloc, whole, here, envelope)? else {
         return Ok(None);
     };
     mark(whole, place);

@@ -10,7 +10,7 @@ use crate::jobs::{claim, commit};
 use crate::stores::{Loss, lose_at};
 use crate::within_limits::let_worker_act;
 use log_entries::{Entry, Event};
-use protocol_data::{ClusterState, CommitInput};
+use protocol_data::{ClusterState, CommitInput, WorkerContext};
 use sequence::Seq;
 use std::alloc::{AllocError, Global};
 use worker_acts::Act;
@@ -20,6 +20,7 @@ use worker_acts::Act;
 pub fn happen(
     alloc: Global,
     whole: &mut ClusterState,
+    here: &mut WorkerContext,
     event: &Event,
     handed: CommitInput,
 ) -> Result<Option<Seq<Entry>>, AllocError>
@@ -27,25 +28,27 @@ pub fn happen(
     ensures entries { IfOk result (λ given. given ≡ entries_limited (happens whole.old event.now handed)) }
 {
     match event {
-        Event::Claim(worker) => claim(alloc, whole, *worker),
-        Event::Commit(job) => commit(alloc, whole, *job, handed),
-        Event::Deliver(message) => deliver(alloc, whole, *message),
-        Event::Tick(worker) => let_worker_act(alloc, whole, *worker, &Act::Tick),
+        Event::Claim(worker) => claim(alloc, whole, here, *worker),
+        Event::Commit(job) => commit(alloc, whole, here, *job, handed),
+        Event::Deliver(message) => deliver(alloc, whole, here, *message),
+        Event::Tick(worker) => let_worker_act(alloc, whole, here, *worker, &Act::Tick),
         Event::Notice { worker, dead } => let_worker_act(
             alloc,
             whole,
+            here,
             *worker,
             &Act::LearnWorkerDied(*dead),
         ),
         Event::NoticeNode { worker, dead } => let_worker_act(
             alloc,
             whole,
+            here,
             *worker,
             &Act::LearnNodeDied(*dead),
         ),
         Event::Evict { node, object } => lose_at(alloc, whole, *node, *object, Loss::Evicted),
         Event::Lose { node, object } => lose_at(alloc, whole, *node, *object, Loss::Lost),
-        Event::Kill(worker) => kill(alloc, whole, *worker),
+        Event::Kill(worker) => kill(alloc, whole, &mut here.there, *worker),
         Event::KillNode(node) => kill_node(alloc, whole, *node),
         Event::Join => join(alloc, whole),
     }

@@ -13,7 +13,7 @@ use crate::within_limits::let_act;
 use ids::WorkerId;
 use log_entries::Entry;
 use number_lists::place_of;
-use protocol_data::{ClusterState, CommitInput, JobRecord, Outcomes};
+use protocol_data::{ClusterState, CommitInput, JobRecord, Outcomes, WorkerContext};
 use sequence::Seq;
 use std::alloc::{AllocError, Global};
 use worker_acts::Act;
@@ -40,6 +40,7 @@ fn add_job(whole: &mut ClusterState, worker: WorkerId) -> Result<(), AllocError>
 pub fn claim(
     alloc: Global,
     whole: &mut ClusterState,
+    here: &mut WorkerContext,
     worker: WorkerId,
 ) -> Result<Option<Seq<Entry>>, AllocError>
     ensures whole { OnOk result (whole.new ≡ whole_limited whole.old (claimed whole.old worker)) }
@@ -47,7 +48,7 @@ pub fn claim(
 {
     let job = next_job(whole);
     let made = whole.made;
-    let Some(entries) = let_act(alloc, whole, worker, &Act::Claim(job), made)? else {
+    let Some(entries) = let_act(alloc, whole, here, worker, &Act::Claim(job), made)? else {
         return Ok(None);
     };
     add_job(whole, worker)?;
@@ -70,6 +71,7 @@ fn note_commit(whole: &mut ClusterState, place: usize, job: u64, made: u64)
 fn commit_outcomes(
     alloc: Global,
     whole: &mut ClusterState,
+    here: &mut WorkerContext,
     job: u64,
     outcomes: Outcomes,
 ) -> Result<Option<Seq<Entry>>, AllocError>
@@ -83,7 +85,7 @@ fn commit_outcomes(
     let Some(made) = with_made(whole.made, &outcomes.births) else {
         return Ok(None);
     };
-    let Some(entries) = let_act(alloc, whole, worker, &Act::Commit(outcomes), made)? else {
+    let Some(entries) = let_act(alloc, whole, here, worker, &Act::Commit(outcomes), made)? else {
         return Ok(None);
     };
     note_commit(whole, place, job, made);
@@ -94,6 +96,7 @@ fn commit_outcomes(
 pub fn commit(
     alloc: Global,
     whole: &mut ClusterState,
+    here: &mut WorkerContext,
     job: u64,
     handed: CommitInput,
 ) -> Result<Option<Seq<Entry>>, AllocError>
@@ -101,7 +104,7 @@ pub fn commit(
     ensures entries { IfOk result (λ given. given ≡ entries_limited (committed whole.old job handed)) }
 {
     match handed {
-        CommitInput::OfJob(outcomes) => commit_outcomes(alloc, whole, job, outcomes),
+        CommitInput::OfJob(outcomes) => commit_outcomes(alloc, whole, here, job, outcomes),
         _ => Ok(nothing(alloc, whole, whole.made)),
     }
 }

@@ -9,7 +9,7 @@ use crate::counting::{fits, opened_at};
 use cluster_steps::deliver_to_node;
 use ids::NodeId;
 use log_entries::Entry;
-use protocol_data::{ClusterState, Endpoint, Message};
+use protocol_data::{ClusterState, Endpoint, Message, NodeContext};
 use sequence::Seq;
 use std::alloc::{AllocError, Global};
 
@@ -18,6 +18,7 @@ use std::alloc::{AllocError, Global};
 pub fn deliver_to_node_within(
     alloc: Global,
     whole: &mut ClusterState,
+    there: &mut NodeContext,
     number: NodeId,
     sender: Endpoint,
     message: &Message,
@@ -29,6 +30,6 @@ pub fn deliver_to_node_within(
     if !fits(whole, opened, whole.made) {
         return Ok(None);
     }
-    let entries = deliver_to_node(alloc, whole, number, sender, message)?;
+    let entries = deliver_to_node(alloc, whole, there, number, sender, message)?;
     Ok(Some(entries))
 }

@@ -9,7 +9,7 @@ use crate::acting::{act, act_or_restore};
 use crate::counting::fits;
 use ids::WorkerId;
 use log_entries::Entry;
-use protocol_data::ClusterState;
+use protocol_data::{ClusterState, WorkerContext};
 use sequence::Seq;
 use std::alloc::{AllocError, Global};
 use worker_acts::Act;
@@ -20,6 +20,7 @@ use worker_acts::Act;
 pub fn let_act(
     alloc: Global,
     whole: &mut ClusterState,
+    here: &mut WorkerContext,
     number: WorkerId,
     what: &Act,
     made: u64,
@@ -31,16 +32,17 @@ pub fn let_act(
         return Ok(None);
     }
     if whole.workers.len() < 1024 {
-        let entries = act(alloc, whole, number, what)?;
+        let entries = act(alloc, whole, here, number, what)?;
         return Ok(Some(entries));
     }
-    act_or_restore(alloc, whole, number, what, made)
+    act_or_restore(alloc, whole, here, number, what, made)
 }
 
 /// The worker of that number does its part in an event that bears nothing.
 pub fn let_worker_act(
     alloc: Global,
     whole: &mut ClusterState,
+    here: &mut WorkerContext,
     number: WorkerId,
     what: &Act,
 ) -> Result<Option<Seq<Entry>>, AllocError>
@@ -48,5 +50,5 @@ pub fn let_worker_act(
     ensures entries { IfOk result (λ given. given ≡ entries_limited (worker_does whole.old number (act_step what.now))) }
 {
     let made = whole.made;
-    let_act(alloc, whole, number, what, made)
+    let_act(alloc, whole, here, number, what, made)
 }

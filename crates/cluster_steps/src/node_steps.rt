@@ -1,15 +1,15 @@
-// What a node does in a whole run: taken out, told or handed a message, and put back; where there is no memory, a call of `drop` lets go of it.
+// What a node does in a whole run: taken out, told or handed a message, and put back.
 
 ghost use Rattle.std.specs.Prelude.{◌≡◌, OnOk, IfOk};
 ghost use Rattle.protocol.specs.Slots.{forgets, node_reached};
 ghost use Rattle.protocol.specs.Cluster.{node_does};
 
-use crate::put_back::put_node;
-use crate::take_out::{node_place, take_node};
+use crate::put_back::leave_node;
+use crate::take_out::{enter_node, node_place};
 use ids::{NodeId, WorkerId};
 use lease::{killed, node_reached};
 use log_entries::Entry;
-use protocol_data::{ClusterState, Endpoint, Message};
+use protocol_data::{ClusterState, Endpoint, Message, NodeContext};
 use sequence::Seq;
 use std::alloc::{AllocError, Global};
 
@@ -17,6 +17,7 @@ use std::alloc::{AllocError, Global};
 pub fn deliver_to_node(
     alloc: Global,
     whole: &mut ClusterState,
+    context: &mut NodeContext,
     number: NodeId,
     sender: Endpoint,
     message: &Message,
@@ -27,20 +28,16 @@ pub fn deliver_to_node(
     let Some(place) = node_place(whole, number) else {
         return Ok(Seq::new(alloc));
     };
-    let mut there = take_node(alloc, whole, place, number);
-    match node_reached(alloc, &mut there, sender, message) {
-        Ok(()) => put_node(alloc, whole, place, number, there),
-        Err(error) => {
-            drop(there);
-            Err(error)
-        }
-    }
+    enter_node(whole, place, number, context);
+    node_reached(alloc, context, sender, message)?;
+    leave_node(alloc, whole, place, number, context)
 }
 
 /// The node of that number is told that its worker is dead. The entries that this adds are given back.
 pub fn forget_at_node(
     alloc: Global,
     whole: &mut ClusterState,
+    context: &mut NodeContext,
     number: NodeId,
     worker: WorkerId,
 ) -> Result<Seq<Entry>, AllocError>
@@ -50,12 +47,7 @@ pub fn forget_at_node(
     let Some(place) = node_place(whole, number) else {
         return Ok(Seq::new(alloc));
     };
-    let mut there = take_node(alloc, whole, place, number);
-    match killed(alloc, &mut there, worker) {
-        Ok(()) => put_node(alloc, whole, place, number, there),
-        Err(error) => {
-            drop(there);
-            Err(error)
-        }
-    }
+    enter_node(whole, place, number, context);
+    killed(alloc, context, worker)?;
+    leave_node(alloc, whole, place, number, context)
 }

@@ -10,6 +10,7 @@ use crate::take_out::new_worker;
 use ids::{NodeId, WorkerId};
 use log_entries::Entry;
 use protocol_data::{ClusterState, Envelope, NodeContext, Worker, WorkerContext};
+use row::Row;
 use sequence::Seq;
 use std::alloc::{AllocError, Global};
 use std::mem;
@@ -18,7 +19,7 @@ use std::mem;
 #[tactic(auto, using(crate::proofs::Blanks::one_more, crate::proofs::Blanks::none_left))]
 fn add_workers(
     alloc: Global,
-    workers: &mut Seq<Worker>,
+    workers: &mut Seq<Row<Worker>>,
     count: u32,
     node: NodeId,
 ) -> Result<(), AllocError>
@@ -26,7 +27,7 @@ fn add_workers(
 {
     for turn in 0..count {
         let _ = turn;
-        workers.push(new_worker(alloc, node))?;
+        workers.push(Row::new(alloc, new_worker(alloc, node))?)?;
     }
     Ok(())
 }
@@ -41,77 +42,77 @@ fn add_undelivered(delivered: &mut Seq<bool>, envelopes: &Seq<Envelope>) -> Resu
     Ok(())
 }
 
-/// Puts an item in the place of one that has nothing to give back, as a worker or a node that stood in: that one is not dropped.
+/// The item changes places with the one that stands there.
 #[inline(always)]
-fn lay<T: Drop>(items: &mut Seq<T>, place: usize, item: T)
+fn lay<T>(items: &mut Seq<T>, place: usize, item: &mut T)
     requires { place < length items.old }
-    ensures { items.new ≡ slice_set items.old place item }
+    ensures { items.new ≡ slice_set items.old place item.old }
 {
-    mem::forget(mem::replace(&mut items.items[place], item));
+    mem::swap(&mut items.items[place], item);
 }
 
 /// The same, of the place of that number.
 #[inline(always)]
-fn put_over<T: Drop>(items: &mut Seq<T>, place: usize, number: u64, item: T)
+fn put_over<T>(items: &mut Seq<T>, place: usize, number: u64, item: &mut T)
     requires place_in { place < length items.old }
     requires number { number ≡ 1 + place }
-    ensures { items.new ≡ changed_at items.old number (λ _. item) }
+    ensures { items.new ≡ changed_at items.old number (λ _. item.old) }
 {
     lay(items, place, item);
 }
 
-/// The node at that place is put back, with what it made. The entries are given back.
+/// The node at that place is put back, with what it made; what stood in its place is in the context again. The entries are given back.
 #[inline(always)]
-pub fn put_node(
+pub fn leave_node(
     alloc: Global,
     whole: &mut ClusterState,
     place: usize,
     number: NodeId,
-    there: NodeContext,
+    context: &mut NodeContext,
 ) -> Result<Seq<Entry>, AllocError>
     requires place_in { place < length whole.old.nodes }
     requires number { number ≡ 1 + place }
-    ensures whole { OnOk result (whole.new ≡ (after_node whole.old number there).whole) }
-    ensures entries { IfOk result (λ entries. entries ≡ (after_node whole.old number there).out.entries) }
+    ensures whole { OnOk result (whole.new ≡ (after_node whole.old number context.old).whole) }
+    ensures entries { IfOk result (λ entries. entries ≡ (after_node whole.old number context.old).out.entries) }
 {
-    let NodeContext {
-        number: _,
-        nodes: _,
-        workers: _,
-        opened,
-        node,
-        out,
-    } = there;
-    put_over(&mut whole.nodes, place, u64::from(number.0), node);
-    add_workers(alloc, &mut whole.workers, opened, number)?;
-    add_undelivered(&mut whole.delivered, &out.envelopes)?;
-    whole.network.append(out.envelopes)?;
-    Ok(out.entries)
+    put_over(
+        &mut whole.nodes,
+        place,
+        u64::from(number.0),
+        &mut context.node,
+    );
+    add_workers(alloc, &mut whole.workers, context.opened, number)?;
+    add_undelivered(&mut whole.delivered, &context.out.envelopes)?;
+    whole
+        .network
+        .items
+        .append(&mut context.out.envelopes.items)?;
+    Ok(mem::replace(&mut context.out.entries, Seq::new(alloc)))
 }
 
-/// The worker and its node are put back, with what they made. The entries are given back.
+/// The worker and its node are put back, with what they made; what stood in their places is in the context again. The entries are given back.
 #[inline(always)]
-pub fn put_worker(
+pub fn leave(
     alloc: Global,
     whole: &mut ClusterState,
     place: usize,
     node_place: usize,
     number: WorkerId,
     node: NodeId,
-    here: WorkerContext,
+    here: &mut WorkerContext,
 ) -> Result<Seq<Entry>, AllocError>
     requires place_in { place < length whole.old.workers }
     requires number { number ≡ 1 + place }
     requires node_place_in { node_place < length whole.old.nodes }
     requires node_number { node ≡ 1 + node_place }
-    ensures whole { OnOk result (whole.new ≡ (after_worker whole.old number node here).whole) }
-    ensures entries { IfOk result (λ entries. entries ≡ (after_worker whole.old number node here).out.entries) }
+    ensures whole { OnOk result (whole.new ≡ (after_worker whole.old number node here.old).whole) }
+    ensures entries { IfOk result (λ entries. entries ≡ (after_worker whole.old number node here.old).out.entries) }
 {
-    let WorkerContext {
-        me: _,
-        worker,
-        there,
-    } = here;
-    put_over(&mut whole.workers, place, u64::from(number.0), worker);
-    put_node(alloc, whole, node_place, node, there)
+    put_over(
+        &mut whole.workers,
+        place,
+        u64::from(number.0),
+        &mut here.worker,
+    );
+    leave_node(alloc, whole, node_place, node, &mut here.there)
 }

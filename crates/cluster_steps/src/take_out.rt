@@ -3,7 +3,7 @@
 ghost use Rattle.std.specs.Prelude.{◌≡◌, ◌<◌, ◌+◌, [], IfSome, IfNone, Some, None, length, slice_get, slice_set};
 ghost use Rattle.protocol.specs.Nodes.{new_node, no_out};
 ghost use Rattle.protocol.specs.Tables.{new_worker};
-ghost use Rattle.protocol.specs.Cluster.{here, node_at, there, worker_at};
+ghost use Rattle.protocol.specs.Cluster.{node_at, there, worker_at};
 
 use ids::{NodeId, WorkerId};
 use number_lists::place_of;
@@ -11,8 +11,9 @@ use protocol_data::{
     Asks, Attempts, ClusterState, Copies, Node, NodeContext, Objects, Outbox, Queue, Scheduler,
     Secondaries, Store, Worker, WorkerContext,
 };
+use row::Row;
 use sequence::Seq;
-use std::alloc::Global;
+use std::alloc::{AllocError, Global};
 use std::mem;
 
 /// Nothing was made yet.
@@ -63,48 +64,29 @@ pub fn new_worker(alloc: Global, node: NodeId) -> Worker
     }
 }
 
-/// A node with nothing, in an event of the node of that number.
+/// An event of the node of that number begins: nothing is opened or made yet.
 #[inline(always)]
-fn blank_there(alloc: Global, whole: &ClusterState, number: NodeId) -> NodeContext
-    ensures { result ≡ there whole.now number (new_node 0) }
+fn begin(whole: &ClusterState, number: NodeId, context: &mut NodeContext)
+    ensures { context.new ≡ there whole.now number context.old.node }
 {
-    NodeContext {
-        number,
-        nodes: whole.nodes.len() as u64,
-        workers: whole.workers.len() as u64,
-        opened: 0,
-        node: new_node(alloc, 0),
-        out: no_out(alloc),
-    }
+    context.number = number;
+    context.nodes = whole.nodes.len() as u64;
+    context.workers = whole.workers.len() as u64;
+    context.opened = 0;
+    context.out.entries.items.clear();
+    context.out.envelopes.items.clear();
 }
 
-/// A worker and its node with nothing, in an event of the worker and the node of those numbers.
+/// The node at that place changes places with the one in the event.
 #[inline(always)]
-pub fn blank_here(
-    alloc: Global,
-    whole: &ClusterState,
-    number: WorkerId,
-    node: NodeId,
-) -> WorkerContext
-    ensures { result ≡ record { me = number; worker = new_worker 0; there = there whole.now node (new_node 0) } }
-{
-    WorkerContext {
-        me: number,
-        worker: new_worker(alloc, NodeId(0)),
-        there: blank_there(alloc, whole, node),
-    }
-}
-
-/// The node at that place changes places with the one in the event: so it is copied once each way, and no more.
-#[inline(always)]
-fn exchange_node(whole: &mut ClusterState, place: usize, there: &mut NodeContext)
+fn exchange_node(whole: &mut ClusterState, place: usize, context: &mut NodeContext)
     requires { place < length whole.old.nodes }
-    ensures taken { slice_get whole.old.nodes place ≡ Some there.new.node }
-    ensures there { there.new ≡ record there.old { node = there.new.node } }
-    ensures left { whole.new ≡ record whole.old { nodes = slice_set whole.old.nodes place there.old.node } }
+    ensures taken { slice_get whole.old.nodes place ≡ Some context.new.node }
+    ensures there { context.new ≡ record context.old { node = context.new.node } }
+    ensures left { whole.new ≡ record whole.old { nodes = slice_set whole.old.nodes place context.old.node } }
 {
     let nodes = &mut whole.nodes;
-    mem::swap(&mut nodes.items[place], &mut there.node);
+    mem::swap(&mut nodes.items[place], &mut context.node);
 }
 
 /// The worker at that place changes places with the one in the event.
@@ -136,47 +118,64 @@ pub fn exchange(whole: &mut ClusterState, place: usize, node_place: usize, here:
     exchange_node(whole, node_place, &mut here.there);
 }
 
-/// The node at that place, in an event, for which a node with nothing stands in.
+/// The node at that place comes into an event; what was in the context, whatever it is, stands in its place meanwhile.
 #[inline(always)]
-pub fn take_node(
-    alloc: Global,
-    whole: &mut ClusterState,
-    place: usize,
-    number: NodeId,
-) -> NodeContext
+pub fn enter_node(whole: &mut ClusterState, place: usize, number: NodeId, context: &mut NodeContext)
     requires { place < length whole.old.nodes }
-    ensures taken { slice_get whole.old.nodes place ≡ Some result.node }
-    ensures there { result ≡ there whole.old number result.node }
-    ensures left { whole.new ≡ record whole.old { nodes = slice_set whole.old.nodes place (new_node 0) } }
+    ensures taken { slice_get whole.old.nodes place ≡ Some context.new.node }
+    ensures there { context.new ≡ there whole.old number context.new.node }
+    ensures left { whole.new ≡ record whole.old { nodes = slice_set whole.old.nodes place context.old.node } }
 {
-    let mut there = blank_there(alloc, whole, number);
-    exchange_node(whole, place, &mut there);
-    there
+    begin(whole, number, context);
+    exchange_node(whole, place, context);
 }
 
-/// The worker at that place and its node, in an event, for which ones with nothing stand in.
+/// The worker at that place and its node come into an event; what was in the context, whatever it is, stands in their places meanwhile.
 #[inline(always)]
-pub fn take_worker(
-    alloc: Global,
+pub fn enter(
     whole: &mut ClusterState,
     place: usize,
     node_place: usize,
     number: WorkerId,
     node: NodeId,
-) -> WorkerContext
+    here: &mut WorkerContext,
+)
     requires worker { place < length whole.old.workers }
     requires node { node_place < length whole.old.nodes }
-    ensures worker_taken { slice_get whole.old.workers place ≡ Some result.worker }
-    ensures node_taken { slice_get whole.old.nodes node_place ≡ Some result.there.node }
-    ensures here { result ≡ record { me = number; worker = result.worker; there = there whole.old node result.there.node } }
+    ensures worker_taken { slice_get whole.old.workers place ≡ Some here.new.worker }
+    ensures node_taken { slice_get whole.old.nodes node_place ≡ Some here.new.there.node }
+    ensures here { here.new ≡ record { me = number; worker = here.new.worker; there = there whole.old node here.new.there.node } }
     ensures left { whole.new ≡ record whole.old {
-      workers = slice_set whole.old.workers place (new_worker 0);
-      nodes = slice_set whole.old.nodes node_place (new_node 0);
+      workers = slice_set whole.old.workers place here.old.worker;
+      nodes = slice_set whole.old.nodes node_place here.old.there.node;
     } }
 {
-    let mut here = blank_here(alloc, whole, number, node);
-    exchange(whole, place, node_place, &mut here);
-    here
+    here.me = number;
+    begin(whole, node, &mut here.there);
+    exchange(whole, place, node_place, here);
+}
+
+/// A context with nothing in it, in which workers and their nodes come into events.
+pub fn blank_context(alloc: Global) -> Result<WorkerContext, AllocError> {
+    Ok(WorkerContext {
+        me: WorkerId(0),
+        worker: Row::new(alloc, new_worker(alloc, NodeId(0)))?,
+        there: NodeContext {
+            number: NodeId(0),
+            nodes: 0,
+            workers: 0,
+            opened: 0,
+            node: Row::new(alloc, new_node(alloc, 0))?,
+            out: no_out(alloc),
+        },
+    })
+}
+
+/// Lets go of all that an event left in the context.
+pub fn clear_context(alloc: Global, here: &mut WorkerContext) {
+    *here.worker = new_worker(alloc, NodeId(0));
+    *here.there.node = new_node(alloc, 0);
+    here.there.out = no_out(alloc);
 }
 
 /// Where the node of that number stands, counted from 0; none where there never was one.

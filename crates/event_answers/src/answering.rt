@@ -8,7 +8,7 @@ use crate::given::given_out;
 use crate::reply::{Answered, refused, taken};
 use cluster_events::happen;
 use log_entries::{Event, Refusal};
-use protocol_data::{ClusterState, CommitInput};
+use protocol_data::{ClusterState, CommitInput, WorkerContext};
 use refusals::refusal;
 use std::alloc::{AllocError, Global};
 
@@ -17,6 +17,7 @@ use std::alloc::{AllocError, Global};
 pub fn answer(
     alloc: Global,
     whole: &mut ClusterState,
+    here: &mut WorkerContext,
     event: &Event,
     handed: CommitInput,
 ) -> Result<Answered, AllocError>
@@ -28,7 +29,7 @@ pub fn answer(
         return Ok(reply);
     }
     let given = given_out(alloc, whole, event)?;
-    let Some(entries) = happen(alloc, whole, event, handed)? else {
+    let Some(entries) = happen(alloc, whole, here, event, handed)? else {
         let reply = refused(alloc, Refusal::Limit)?;
         return Ok(reply);
     };

@@ -9,25 +9,26 @@ use cluster_steps::new_node;
 use held::{Answers, Births, Prints, SharedBirth};
 use ids::{NodeId, ObjectId, WorkerId};
 use protocol_data::{Attempts, ClusterState, Execution, Node, Objects, Phase, Worker};
+use row::Row;
 use sequence::Seq;
 use std::alloc::{AllocError, Global};
 use task_spec::Birth;
 use worker_steps::main_attempt;
 
 /// So many nodes with so many slots each.
-fn first_nodes(alloc: Global, nodes: u8, slots: u32) -> Result<Seq<Node>, AllocError>
+fn first_nodes(alloc: Global, nodes: u8, slots: u32) -> Result<Seq<Row<Node>>, AllocError>
     ensures { IfOk result (λ all. all ≡ new_nodes nodes slots) }
 {
     let mut all = Seq::new(alloc);
     for turn in 0..nodes {
         let _ = turn;
-        all.push(new_node(alloc, slots))?;
+        all.push(Row::new(alloc, new_node(alloc, slots))?)?;
     }
     Ok(all)
 }
 
 /// The first of these nodes has given the driver a slot.
-fn give_driver_a_slot(alloc: Global, nodes: &mut Seq<Node>) -> Result<(), AllocError>
+fn give_driver_a_slot(alloc: Global, nodes: &mut Seq<Row<Node>>) -> Result<(), AllocError>
     requires { 0 < length nodes.old }
     ensures { OnOk result (nodes.new ≡ with_driver nodes.old) }
 {
@@ -102,7 +103,7 @@ pub fn first_whole(alloc: Global, nodes: u8, slots: u8) -> Result<ClusterState, 
     let mut all = first_nodes(alloc, nodes, slots)?;
     give_driver_a_slot(alloc, &mut all)?;
     let mut workers = Seq::new(alloc);
-    workers.push(driver(alloc)?)?;
+    workers.push(Row::new(alloc, driver(alloc)?)?)?;
     Ok(ClusterState {
         slots,
         nodes: all,

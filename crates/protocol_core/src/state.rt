@@ -8,9 +8,10 @@ ghost use Rattle.protocol_core.specs.Views.{state_of};
 
 use crate::cluster::Cluster;
 use crate::opening::first_whole;
+use cluster_steps::{blank_context, clear_context};
 use ids::{AttemptId, NodeId, ObjectId, WorkerId};
 use log_entries::Entry;
-use protocol_data::ClusterState;
+use protocol_data::{ClusterState, WorkerContext};
 use sequence::Seq;
 use std::alloc::{AllocError, Global};
 use std::mem;
@@ -20,6 +21,8 @@ use std::mem;
 pub struct State {
     /// Workers, nodes, messages and jobs.
     pub whole: ClusterState,
+    /// Where a worker and its node are while they are in an event; what is left in it between events means nothing.
+    pub here: WorkerContext,
     /// The entries so far, oldest first.
     pub log: Seq<Entry>,
     /// How many nodes there were at first, from 1 to 64.
@@ -55,15 +58,15 @@ fn cut(log: &mut Seq<Entry>, count: usize)
     log.items.truncate(count);
 }
 
-/// Adds an entry and more of them at the end. On an error the log is as it was.
+/// Adds an entry, and moves more of them behind it. On an error the log is as it was.
 #[tactic(auto, using(crate::proofs::Adding::added, crate::proofs::Adding::cut_back))]
-fn add_both(log: &mut Seq<Entry>, own: Entry, more: Seq<Entry>) -> Result<(), AllocError>
-    ensures ok { OnOk result (log.new ≡ log.old ++ own ∷ more) }
+fn add_both(log: &mut Seq<Entry>, own: Entry, more: &mut Seq<Entry>) -> Result<(), AllocError>
+    ensures ok { OnOk result (log.new ≡ log.old ++ own ∷ more.old) }
     ensures err { OnErr result (log.new ≡ log.old) }
 {
     let count = log.len();
     log.push(own)?;
-    if let Err(error) = log.append(more) {
+    if let Err(error) = log.items.append(&mut more.items) {
         cut(log, count);
         return Err(error);
     }
@@ -95,13 +98,15 @@ impl State {
         let whole = first_whole(alloc, first_nodes, cluster.slots())?;
         Ok(State {
             whole,
+            here: blank_context(alloc)?,
             log,
             first_nodes,
             is_halted: false,
         })
     }
 
-    /// Adds an event's own entry and what comes of the event at the log's end, or leaves the log as it is.
+    /// Adds an event's own entry and what comes of the event at the log's end, or leaves the log as it is. The list of what came keeps its room, for
+    /// the next event.
     pub fn add(&mut self, own: Entry, more: Seq<Entry>) -> Result<(), AllocError>
         ensures ok { OnOk result (self.new.log ≡ self.old.log ++ own ∷ more) }
         ensures err { OnErr result (self.new.log ≡ self.old.log) }
@@ -109,14 +114,21 @@ impl State {
         ensures nodes { self.new.first_nodes ≡ self.old.first_nodes }
         ensures halted { self.new.is_halted ≡ self.old.is_halted }
     {
-        add_both(&mut self.log, own, more)
+        let mut more = more;
+        add_both(&mut self.log, own, &mut more)?;
+        self.here.there.out.entries = more;
+        Ok(())
     }
 
     /// An event found no memory. What it left of workers, nodes, messages and jobs, which may be half changed, is let go of.
     pub fn halt(&mut self, alloc: Global)
-        ensures { self.new ≡ record self.old { whole = nothing_left; is_halted = true } }
+        ensures left { self.new.whole ≡ nothing_left }
+        ensures log { self.new.log ≡ self.old.log }
+        ensures nodes { self.new.first_nodes ≡ self.old.first_nodes }
+        ensures halted { self.new.is_halted ≡ true }
     {
         drop(mem::replace(&mut self.whole, nothing_left(alloc)));
+        clear_context(alloc, &mut self.here);
         self.is_halted = true;
     }
 }

@@ -60,7 +60,7 @@ fn try_step<S: ScriptName>(
     runs_have_the_logs_answers();
     sound_is_legal();
     let handed = handed_with(alloc, &state.whole, &event, done, is_own)?;
-    let reply = answer(alloc, &mut state.whole, &event, handed)?;
+    let reply = answer(alloc, &mut state.whole, &mut state.here, &event, handed)?;
     let Answered { entries, outcome } = reply;
     state.add(Entry::In { event, seat }, entries)?;
     match outcome {

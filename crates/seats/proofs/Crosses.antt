@@ -39,6 +39,7 @@ use Rattle.protocol_data.specs.contracts.tables.Object as Object
 use Rattle.protocol_data.specs.contracts.message.Message as Message
 use Rattle.protocol_data.specs.contracts.node.Node as Node
 use Rattle.protocol_data.specs.contracts.tables.Worker as Worker
+use Rattle.protocol_data.specs.contracts.tables.WorkerContext as WorkerContext
 use Rattle.protocol_data.specs.contracts.cluster_state.ClusterState as ClusterState
 use Rattle.run_paths.specs.of_protocol_board.Cores.Core as Core
 use Rattle.run_paths.specs.of_protocol_board.contracts.board.Board as Board
@@ -146,6 +147,9 @@ entry_send = search (
   sendable,
 ) depth 60 fits 20000
 
+context_send : IsSend WorkerContext.the_field.row
+context_send = search (node_send, worker_send, envelope_send, entry_send, node.the_send, worker.the_send, crosses, sendable) depth 60 fits 20000
+
 lines_send : IsSend (Seq.the_row PlanLine.the_row)
 lines_send = search (crosses, sendable) depth 60 fits 20000
 
@@ -154,7 +158,7 @@ outs_send = search (crosses, sendable) depth 60 fits 20000
 
 module _ (S : RattleType) (n : script_name.Ghosts S.Denot) (s : IsSend S) where
   core_send : IsSend (Core.the_row S n)
-  core_send = search (cluster_send, entry_send, phantom.the_field_send, crosses, sendable) depth 60 fits 20000
+  core_send = search (cluster_send, context_send, entry_send, phantom.the_field_send, crosses, sendable) depth 60 fits 20000
 
   board_send : IsSend (Board.the_row S n)
   board_send = search (core_send, crosses, sendable) depth 60 fits 20000

@@ -8,6 +8,7 @@ ghost use Rattle.protocol.specs.Settling.{first_job};
 use ids::WorkerId;
 use protocol_data::Worker;
 use refusals::job_out;
+use row::Row;
 use sequence::Seq;
 
 /// Whether the number is one of these workers.
@@ -34,7 +35,7 @@ fn job_of(worker: &Worker, but: &Seq<WorkerId>, number: u64) -> Option<u64>
 
 /// The job of the least live worker whose job is out, but for these workers.
 #[tactic(auto, using(crate::proofs::Places::no_job_further))]
-pub fn first_job(workers: &Seq<Worker>, but: &Seq<WorkerId>) -> Option<u64>
+pub fn first_job(workers: &Seq<Row<Worker>>, but: &Seq<WorkerId>) -> Option<u64>
     ensures { result ≡ first_job but.now 1 workers.now }
 {
     for place in 0..workers.len() {

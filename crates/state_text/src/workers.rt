@@ -24,7 +24,10 @@ fn node_at(whole: &ClusterState, node: NodeId) -> Option<&Node>
         return None;
     }
     let place = (node.0 - 1) as usize;
-    whole.nodes.items.get(place)
+    match whole.nodes.items.get(place) {
+        Some(node) => Some(&**node),
+        None => None,
+    }
 }
 
 fn is_one(workers: &[WorkerId], worker: WorkerId) -> bool

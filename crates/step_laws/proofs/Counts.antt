@@ -77,8 +77,8 @@ died_counts c made n w = died_by c made n w (node_at c n)
 some_is : {X : Type 0} (x y : X) → Some x ≡ Some y → x ≡ y
 some_is x y e = cc
 
--- what was taken out and is put back as it was
-pub restored : {X : Type 0} (xs : List X) (i : ℕ) (d x : X) → slice_get xs i ≡ Some x → slice_set (slice_set xs i d) i x ≡ xs
-restored [] i d x e = refl
-restored (y ∷ ys) zero d x e = let f : y ≡ x = some_is y x e in ap (λ z. z ∷ ys) (sym f)
-restored (y ∷ ys) (suc i) d x e = ap (λ zs. y ∷ zs) (restored ys i d x e)
+-- what was taken out and is put back as it was, while one and then another stood in its place
+pub restored : {X : Type 0} (xs : List X) (i : ℕ) (d b x : X) → slice_get xs i ≡ Some x → slice_set (slice_set (slice_set xs i d) i b) i x ≡ xs
+restored [] i d b x e = refl
+restored (y ∷ ys) zero d b x e = let f : y ≡ x = some_is y x e in ap (λ z. z ∷ ys) (sym f)
+restored (y ∷ ys) (suc i) d b x e = ap (λ zs. y ∷ zs) (restored ys i d b x e)

@@ -28,14 +28,20 @@ fn item_at<T>(items: &Seq<T>, number: u64) -> Option<&T>
 pub fn worker_at(whole: &ClusterState, worker: WorkerId) -> Option<&Worker>
     ensures { MatchOption result (worker_at whole.now worker ≡ None) (λ x. worker_at whole.now worker ≡ Some x.now) }
 {
-    item_at(&whole.workers, u64::from(worker.0))
+    match item_at(&whole.workers, u64::from(worker.0)) {
+        Some(found) => Some(&**found),
+        None => None,
+    }
 }
 
 /// The node of that number, counted from 1; none where it never came.
 pub fn node_at(whole: &ClusterState, node: NodeId) -> Option<&Node>
     ensures { MatchOption result (node_at whole.now node ≡ None) (λ x. node_at whole.now node ≡ Some x.now) }
 {
-    item_at(&whole.nodes, u64::from(node.0))
+    match item_at(&whole.nodes, u64::from(node.0)) {
+        Some(found) => Some(&**found),
+        None => None,
+    }
 }
 
 /// The message of that number.

@@ -3,12 +3,12 @@
 
 mod causes;
 mod compared;
+mod fault_row;
 mod orders;
-mod row;
 mod trial;
 
+use crate::faults::fault_row::{Read, Reading, Row};
 use crate::faults::orders::try_orders;
-use crate::faults::row::{Read, Reading, Row};
 use crate::faults::trial::{Tally, try_row};
 use std::rt::Files;
 use std::{fs, io};

@@ -4,7 +4,7 @@ ghost use Rattle.std.specs.Prelude.{◌≡◌};
 ghost use Rattle.script_check.specs.Trees.{script_of};
 
 use crate::faults::compared::begin_alike;
-use crate::faults::row::Row;
+use crate::faults::fault_row::Row;
 use event_files::{Line, parse_events};
 use fault_lists::event_lines;
 use fault_runs::replay_lines;

@@ -5,7 +5,7 @@ ghost use Rattle.script_check.specs.Trees.{script_of};
 
 use crate::faults::causes::all_have_causes;
 use crate::faults::compared::reads_as_serial;
-use crate::faults::row::Row;
+use crate::faults::fault_row::Row;
 use event_files::{Line, parse_events};
 use fault_lists::{
     FaultChoice, FaultList, RunEnd, end_of, event_lines, event_list, events_in, fault_lists,

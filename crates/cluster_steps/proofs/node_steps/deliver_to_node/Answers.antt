@@ -1,5 +1,4 @@
 use Rattle.std.proofs.Common.{◌≡◌, OnOk, IfOk, sym, ap, ◌∙◌, subst}
-use Rattle.protocol.specs.Nodes.{new_node}
 use Rattle.protocol.specs.Slots.{node_reached}
 use Rattle.protocol.specs.Cluster.{node_does_by}
 use Rattle.cluster_steps.proofs.Returns.{node_done}
@@ -12,18 +11,18 @@ pub returns-in_default-clause-entries : goal.returns-in_default-clause-entries
 returns-in_default-clause-entries c =
     c.new.ensures ∙ sym (ap (λ o. (node_does_by c.args.whole.now c.args.number (λ h. node_reached h c.args.sender c.args.message.now) o).out.entries) c.in_default.ensures.none)
 
-pub returns-in-Ok-clause-whole : goal.returns-in-Ok-clause-whole
-returns-in-Ok-clause-whole c =
-    let t = c.take_node-there in
-    subst (λ m. OnOk c.put_node.result (c.put_node.new.whole ≡ m.whole))
-    (node_done c.args.whole.now t.new.whole c.in-Some.place c.args.number (new_node 0) t.result.node (λ h. node_reached h c.args.sender c.args.message.now) t.result
-    c.node_reached.new.there c.in-Some.ensures.found.1 c.in-Some.ensures.found.0 t.ensures.left t.ensures.taken t.ensures.there (subst (λ r. OnOk r (c.node_reached.new.there ≡ node_reached t.result c.args.sender c.args.message.now)) c.in-Ok.is c.node_reached.ensures.ok))
-    c.put_node.ensures.whole
+pub returns-clause-whole : goal.returns-clause-whole
+returns-clause-whole c =
+    let t = c.enter_node in
+    subst (λ m. OnOk c.leave_node.result (c.leave_node.new.whole ≡ m.whole))
+    (node_done c.args.whole.now t.new.whole c.in-Some.place c.args.number c.args.context.now.node t.new.context.node (λ h. node_reached h c.args.sender c.args.message.now) t.new.context
+    c.node_reached.new.there c.in-Some.ensures.found.1 c.in-Some.ensures.found.0 t.ensures.left t.ensures.taken t.ensures.there c.in_ok-node_reached.ensures.ok)
+    c.leave_node.ensures.whole
 
-pub returns-in-Ok-clause-entries : goal.returns-in-Ok-clause-entries
-returns-in-Ok-clause-entries c =
-    let t = c.take_node-there in
-    subst (λ m. IfOk c.put_node.result (λ entries. entries ≡ m.out.entries))
-    (node_done c.args.whole.now t.new.whole c.in-Some.place c.args.number (new_node 0) t.result.node (λ h. node_reached h c.args.sender c.args.message.now) t.result
-    c.node_reached.new.there c.in-Some.ensures.found.1 c.in-Some.ensures.found.0 t.ensures.left t.ensures.taken t.ensures.there (subst (λ r. OnOk r (c.node_reached.new.there ≡ node_reached t.result c.args.sender c.args.message.now)) c.in-Ok.is c.node_reached.ensures.ok))
-    c.put_node.ensures.entries
+pub returns-clause-entries : goal.returns-clause-entries
+returns-clause-entries c =
+    let t = c.enter_node in
+    subst (λ m. IfOk c.leave_node.result (λ entries. entries ≡ m.out.entries))
+    (node_done c.args.whole.now t.new.whole c.in-Some.place c.args.number c.args.context.now.node t.new.context.node (λ h. node_reached h c.args.sender c.args.message.now) t.new.context
+    c.node_reached.new.there c.in-Some.ensures.found.1 c.in-Some.ensures.found.0 t.ensures.left t.ensures.taken t.ensures.there c.in_ok-node_reached.ensures.ok)
+    c.leave_node.ensures.entries

@@ -8,7 +8,7 @@ pub returns : goal.returns
 returns c =
     let h = c.args.here.now in
     let task = c.in-ByTask.task in
-    let found = c.in-Some.ensures in
+    let found = ap (λ w. item_at w.objects c.args.serial) (sym c.deref.ensures) ∙ c.in-Some.ensures in
     let made = c.in-ByTask.is in
     let known : task_of (item_at h.worker.objects c.args.serial) ≡ Some task = ap task_of found ∙ ap task_in made in
     subst (λ g. OnOk c.ask_next.result (c.ask_next.new.here ≡ g))

@@ -12,6 +12,6 @@ returns c = λ task e.
     let read = c.in-ByTask.task in
     let found = c.in-Some.ensures in
     let there : task_of (item_at h.worker.objects o.serial) ≡ Some read =
-    ap (λ i. task_of (item_at h.worker.objects i.serial)) (sym c.object.view_is) ∙ ap task_of found ∙ ap task_in c.in-ByTask.is in
+    ap (λ i. task_of (item_at h.worker.objects i.serial)) (sym c.object.view_is) ∙ ap (λ w. task_of (item_at w.objects c.object.inside.serial)) (sym c.deref.ensures) ∙ ap task_of found ∙ ap task_in c.in-ByTask.is in
     subst (λ x. OnOk c.ask_next.result (c.ask_next.new.here ≡ asks_next h o x c.args.t c.args.node))
     (same_task _ read task there e) (c.ask_next.ensures read there)

@@ -6,12 +6,12 @@ use Rattle.worker_steps.proofs.releases.release_pass.Goals as goal
 
 pub returns-then-next-count : goal.returns-then-next-count
 returns-then-next-count c =
-    sym (passed_all _ _ _ _ c.next_place-next.ensures.on (omega (arith, c.if-next-count.true)) c.next_place-next.ensures.none)
+    sym (passed_all _ _ _ _ c.next_place_here-next.ensures.on (omega (arith, c.if-next-count.true)) c.next_place_here-next.ensures.none)
     ∙ c.loop-turn.invariant.0
-    ∙ ap (λ n. each_from (λ g k. releases_by g k (own_object g k)) c.args.here.now 1 n) c.len-count.ensures.len
+    ∙ ap (λ n. each_from (λ g k. releases_by g k (own_object g k)) c.args.here.now 1 n) c.count_of-count.ensures.len
 
 pub loop-turn-preserved : goal.loop-turn-preserved
 loop-turn-preserved c = (
-  one_released _ _ _ _ _ _ c.next_place-next.ensures.on c.next_place-next.ensures.none (omega (arith, c.if-next-count.false)) c.in_ok-release_by.ensures c.loop-turn.invariant.0,
-  omega (arith, c.loop-turn.invariant.1, c.next_place-next.ensures.on),
+  one_released _ _ _ _ _ _ c.next_place_here-next.ensures.on c.next_place_here-next.ensures.none (omega (arith, c.if-next-count.false)) c.in_ok-release_by.ensures c.loop-turn.invariant.0,
+  omega (arith, c.loop-turn.invariant.1, c.next_place_here-next.ensures.on),
 )

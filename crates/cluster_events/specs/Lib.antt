@@ -1,2 +1,3 @@
 pub mod Kept
 pub mod Losses
+pub mod Told

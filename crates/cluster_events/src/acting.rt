@@ -8,34 +8,35 @@ ghost use Rattle.protocol_data.specs.declared.node.Node.{Node};
 ghost use Rattle.protocol_data.specs.declared.tables.Worker.{Worker};
 ghost use Rattle.worker_acts.specs.Acts.{act_step};
 ghost use Rattle.cluster_events.specs.Kept.{IsKept, IsLeft, put_into};
+ghost use Rattle.cluster_events.specs.Told.{if_taken};
 
 use crate::counting::{fits, nothing};
-use cluster_steps::{enter, exchange, leave, node_place, worker_place};
+use cluster_steps::{enter, exchange, leave, log_nothing, node_place, worker_place};
 use ids::{NodeId, WorkerId};
-use log_entries::Entry;
 use protocol_data::{ClusterState, Node, Worker, WorkerContext};
 use row::Row;
-use sequence::Seq;
 use std::alloc::{AllocError, Global};
 use worker_acts::{Act, take_part};
 
-/// The worker of that number does its part in an event, in the context. The entries that this adds are given back.
+/// The worker of that number does its part in an event, in the context, in which the entries that this adds are left.
 pub fn act(
     alloc: Global,
     whole: &mut ClusterState,
     here: &mut WorkerContext,
     number: WorkerId,
     what: &Act,
-) -> Result<Seq<Entry>, AllocError>
+) -> Result<(), AllocError>
     ensures whole { OnOk result (whole.new ≡ (worker_does whole.old number (act_step what.now)).whole) }
-    ensures entries { IfOk result (λ entries. entries ≡ (worker_does whole.old number (act_step what.now)).out.entries) }
+    ensures entries { OnOk result (here.new.there.out.entries ≡ (worker_does whole.old number (act_step what.now)).out.entries) }
 {
     let Some(place) = worker_place(whole, number) else {
-        return Ok(Seq::new(alloc));
+        log_nothing(&mut here.there);
+        return Ok(());
     };
     let node = whole.workers.get(place).node;
     let Some(node_place) = node_place(whole, node) else {
-        return Ok(Seq::new(alloc));
+        log_nothing(&mut here.there);
+        return Ok(());
     };
     enter(whole, place, node_place, number, node, here);
     take_part(alloc, here, what)?;
@@ -96,26 +97,26 @@ fn put_within(
     here: &mut WorkerContext,
     kept: Kept,
     made: u64,
-) -> Result<Option<Seq<Entry>>, AllocError>
+) -> Result<bool, AllocError>
     requires place_in { place < length whole.old.workers }
     requires number { number ≡ 1 + place }
     requires node_place_in { node_place < length whole.old.nodes }
     requires node_number { node ≡ 1 + node_place }
     ensures whole { (c : ClusterState) (w : Worker) (n : Node) → IsLeft kept c place node_place w n whole.old → OnOk result (whole.new ≡ put_into made c whole.old number node here.old) }
-    ensures entries { IfOk result (λ given. given ≡ entries_within made (after_worker whole.old number node here.old)) }
+    ensures entries { IfOk result (λ taken. if_taken taken here.new.there.out.entries ≡ entries_within made (after_worker whole.old number node here.old)) }
 {
     if fits(whole, u64::from(here.there.opened), made) {
         drop(kept);
-        let entries = leave(alloc, whole, place, node_place, number, node, here)?;
-        return Ok(Some(entries));
+        leave(alloc, whole, place, node_place, number, node, here)?;
+        return Ok(true);
     }
     exchange(whole, place, node_place, here);
     put_again(whole, place, node_place, kept);
-    Ok(None)
+    Ok(false)
 }
 
-/// The worker of that number does its part in an event, after which there are so many objects. The worker and its node are kept meanwhile: where
-/// a limit would be passed they stand again as they were.
+/// The worker of that number does its part in an event, after which there are so many objects. It is told whether that was within the limits; the worker
+/// and its node are kept meanwhile, and where a limit would be passed they stand again as they were.
 pub fn act_or_restore(
     alloc: Global,
     whole: &mut ClusterState,
@@ -123,16 +124,16 @@ pub fn act_or_restore(
     number: WorkerId,
     what: &Act,
     made: u64,
-) -> Result<Option<Seq<Entry>>, AllocError>
+) -> Result<bool, AllocError>
     ensures whole { OnOk result (whole.new ≡ whole_within made whole.old (worker_does whole.old number (act_step what.now))) }
-    ensures entries { IfOk result (λ given. given ≡ entries_within made (worker_does whole.old number (act_step what.now))) }
+    ensures entries { IfOk result (λ taken. if_taken taken here.new.there.out.entries ≡ entries_within made (worker_does whole.old number (act_step what.now))) }
 {
     let Some(place) = worker_place(whole, number) else {
-        return Ok(nothing(alloc, whole, made));
+        return Ok(nothing(whole, &mut here.there, made));
     };
     let node = whole.workers.get(place).node;
     let Some(node_place) = node_place(whole, node) else {
-        return Ok(nothing(alloc, whole, made));
+        return Ok(nothing(whole, &mut here.there, made));
     };
     let kept = keep(alloc, whole, place, node_place)?;
     enter(whole, place, node_place, number, node, here);

@@ -4,13 +4,14 @@ ghost use Rattle.std.specs.Prelude.{◌≡◌, ◌+◌, IfOk, length, nat_lt};
 ghost use Rattle.protocol.specs.Sets.{without_number};
 ghost use Rattle.protocol.specs.Cluster.{moved, node_at};
 ghost use Rattle.step_laws.specs.Limits.{entries_within};
+ghost use Rattle.cluster_events.specs.Told.{if_taken};
 ghost use Rattle.step_laws.specs.Opens.{asked_opens, death_opens, fits, opened_at, opened_by_death, reached_opens};
 
+use cluster_steps::log_nothing;
 use ids::{NodeId, WorkerId};
 use lease::{has_free_slot, reply_to};
-use log_entries::Entry;
 use number_lists::{has_worker, item_at_number, remove_worker};
-use protocol_data::{AskKey, ClusterState, Endpoint, Message, Scheduler};
+use protocol_data::{AskKey, ClusterState, Endpoint, Message, NodeContext, Scheduler};
 use sequence::Seq;
 use std::alloc::{AllocError, Global};
 
@@ -115,12 +116,10 @@ pub fn fits(whole: &ClusterState, opened: u64, made: u64) -> bool
         && made < 1000001
 }
 
-/// Nothing happens, and nothing is logged.
-pub fn nothing(alloc: Global, whole: &ClusterState, made: u64) -> Option<Seq<Entry>>
-    ensures { result ≡ entries_within made (moved whole.now) }
+/// Nothing happens, and nothing is logged. It is told whether that is within the limits.
+pub fn nothing(whole: &ClusterState, context: &mut NodeContext, made: u64) -> bool
+    ensures { if_taken result context.new.out.entries ≡ entries_within made (moved whole.now) }
 {
-    if fits(whole, 0, made) {
-        return Some(Seq::new(alloc));
-    }
-    None
+    log_nothing(context);
+    fits(whole, 0, made)
 }

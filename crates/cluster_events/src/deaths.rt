@@ -2,13 +2,13 @@
 
 ghost use Rattle.std.specs.Prelude.{◌≡◌, ◌<◌, ◌+◌, IfOk, OnOk, length, map};
 ghost use Rattle.step_laws.specs.Limits.{entries_limited, whole_limited};
+ghost use Rattle.cluster_events.specs.Told.{if_taken};
 ghost use Rattle.protocol.specs.Events.{dead, dead_node, dies_with, joined, killed, node_killed};
 ghost use Rattle.protocol.specs.Numbered.{changed_at};
 
 use crate::counting::{fits, nothing, opened_by_death};
-use cluster_steps::{forget_at_node, new_node, node_place, worker_place};
+use cluster_steps::{forget_at_node, log_nothing, new_node, node_place, worker_place};
 use ids::{NodeId, WorkerId};
-use log_entries::Entry;
 use protocol_data::{ClusterState, NodeContext, Worker};
 use row::Row;
 use sequence::Seq;
@@ -30,23 +30,23 @@ fn mark_dead(whole: &mut ClusterState, place: usize, number: WorkerId)
 pub fn kill(
     alloc: Global,
     whole: &mut ClusterState,
-    there: &mut NodeContext,
+    context: &mut NodeContext,
     number: WorkerId,
-) -> Result<Option<Seq<Entry>>, AllocError>
+) -> Result<bool, AllocError>
     ensures whole { OnOk result (whole.new ≡ whole_limited whole.old (killed whole.old number)) }
-    ensures entries { IfOk result (λ given. given ≡ entries_limited (killed whole.old number)) }
+    ensures entries { IfOk result (λ taken. if_taken taken context.new.out.entries ≡ entries_limited (killed whole.old number)) }
 {
     let Some(place) = worker_place(whole, number) else {
-        return Ok(nothing(alloc, whole, whole.made));
+        return Ok(nothing(whole, context, whole.made));
     };
     let node = whole.workers.get(place).node;
     let opened = opened_by_death(alloc, whole, node, number)?;
     if !fits(whole, opened, whole.made) {
-        return Ok(None);
+        return Ok(false);
     }
     mark_dead(whole, place, number);
-    let entries = forget_at_node(alloc, whole, there, node, number)?;
-    Ok(Some(entries))
+    forget_at_node(alloc, whole, context, node, number)?;
+    Ok(true)
 }
 
 /// The worker dies where it is the node's.
@@ -109,31 +109,38 @@ fn node_dies(whole: &mut ClusterState, number: NodeId)
 pub fn kill_node(
     alloc: Global,
     whole: &mut ClusterState,
+    context: &mut NodeContext,
     number: NodeId,
-) -> Result<Option<Seq<Entry>>, AllocError>
+) -> Result<bool, AllocError>
     ensures whole { OnOk result (whole.new ≡ whole_limited whole.old (node_killed whole.old number)) }
-    ensures entries { IfOk result (λ given. given ≡ entries_limited (node_killed whole.old number)) }
+    ensures entries { IfOk result (λ taken. if_taken taken context.new.out.entries ≡ entries_limited (node_killed whole.old number)) }
 {
     if !fits(whole, 0, whole.made) {
-        return Ok(None);
+        return Ok(false);
     }
     node_dies(whole, number);
     workers_die(alloc, whole, number)?;
-    Ok(Some(Seq::new(alloc)))
+    log_nothing(context);
+    Ok(true)
 }
 
 /// A node with the next number comes.
-pub fn join(alloc: Global, whole: &mut ClusterState) -> Result<Option<Seq<Entry>>, AllocError>
+pub fn join(
+    alloc: Global,
+    whole: &mut ClusterState,
+    context: &mut NodeContext,
+) -> Result<bool, AllocError>
     ensures whole { OnOk result (whole.new ≡ whole_limited whole.old (joined whole.old)) }
-    ensures entries { IfOk result (λ given. given ≡ entries_limited (joined whole.old)) }
+    ensures entries { IfOk result (λ taken. if_taken taken context.new.out.entries ≡ entries_limited (joined whole.old)) }
 {
     if whole.nodes.len() >= 64 {
-        return Ok(None);
+        return Ok(false);
     }
     if !fits(whole, 0, whole.made) {
-        return Ok(None);
+        return Ok(false);
     }
     let slots = whole.slots;
     whole.nodes.push(Row::new(alloc, new_node(alloc, slots))?)?;
-    Ok(Some(Seq::new(alloc)))
+    log_nothing(context);
+    Ok(true)
 }

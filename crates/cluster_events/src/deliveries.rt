@@ -3,16 +3,15 @@
 ghost use Rattle.std.specs.Prelude.{◌≡◌, IfOk, OnOk};
 ghost use Rattle.step_laws.specs.Later.{marked};
 ghost use Rattle.step_laws.specs.Limits.{entries_limited, whole_limited};
+ghost use Rattle.cluster_events.specs.Told.{if_taken};
 ghost use Rattle.protocol.specs.Events.{delivered, delivered_to};
 
 use crate::counting::nothing;
 use crate::node_events::deliver_to_node_within;
 use crate::within_limits::let_act;
-use log_entries::Entry;
 use number_lists::{item_at_number, place_of};
 use protocol_data::{ClusterState, Endpoint, Envelope, Message, WorkerContext};
 use refusals::{is_live_node, is_live_worker};
-use sequence::Seq;
 use std::alloc::{AllocError, Global};
 use worker_acts::Act;
 
@@ -45,9 +44,9 @@ fn hand_over(
     whole: &mut ClusterState,
     here: &mut WorkerContext,
     envelope: Envelope,
-) -> Result<Option<Seq<Entry>>, AllocError>
+) -> Result<bool, AllocError>
     ensures whole { OnOk result (whole.new ≡ whole_limited whole.old (delivered_to whole.old envelope envelope.receiver)) }
-    ensures entries { IfOk result (λ given. given ≡ entries_limited (delivered_to whole.old envelope envelope.receiver)) }
+    ensures entries { IfOk result (λ taken. if_taken taken here.new.there.out.entries ≡ entries_limited (delivered_to whole.old envelope envelope.receiver)) }
 {
     let Envelope {
         sender,
@@ -58,7 +57,7 @@ fn hand_over(
     match receiver {
         Endpoint::TheWorker(worker) => {
             if !is_live_worker(whole, worker) {
-                return Ok(nothing(alloc, whole, made));
+                return Ok(nothing(whole, &mut here.there, made));
             }
             let_act(
                 alloc,
@@ -71,7 +70,7 @@ fn hand_over(
         }
         Endpoint::TheNode(node) => {
             if !is_live_node(whole, node) {
-                return Ok(nothing(alloc, whole, made));
+                return Ok(nothing(whole, &mut here.there, made));
             }
             deliver_to_node_within(alloc, whole, &mut here.there, node, sender, &message)
         }
@@ -94,20 +93,20 @@ pub fn deliver(
     whole: &mut ClusterState,
     here: &mut WorkerContext,
     number: u64,
-) -> Result<Option<Seq<Entry>>, AllocError>
+) -> Result<bool, AllocError>
     ensures whole { OnOk result (whole.new ≡ whole_limited whole.old (delivered whole.old number)) }
-    ensures entries { IfOk result (λ given. given ≡ entries_limited (delivered whole.old number)) }
+    ensures entries { IfOk result (λ taken. if_taken taken here.new.there.out.entries ≡ entries_limited (delivered whole.old number)) }
 {
     let Some(envelope) = item_at_number(&whole.network, number) else {
-        return Ok(nothing(alloc, whole, whole.made));
+        return Ok(nothing(whole, &mut here.there, whole.made));
     };
     let envelope = copy_envelope(alloc, envelope)?;
     let Some(place) = place_of(number, whole.delivered.len()) else {
         return hand_over(alloc, whole, here, envelope);
     };
-    let Some(entries) = hand_over(alloc, whole, here, envelope)? else {
-        return Ok(None);
-    };
+    if !hand_over(alloc, whole, here, envelope)? {
+        return Ok(false);
+    }
     mark(whole, place);
-    Ok(Some(entries))
+    Ok(true)
 }

@@ -2,6 +2,7 @@
 
 ghost use Rattle.std.specs.Prelude.{◌≡◌, IfOk, OnOk};
 ghost use Rattle.step_laws.specs.Limits.{entries_limited, whole_limited};
+ghost use Rattle.cluster_events.specs.Told.{if_taken};
 ghost use Rattle.protocol.specs.Events.{happens};
 
 use crate::deaths::{join, kill, kill_node};
@@ -9,23 +10,22 @@ use crate::deliveries::deliver;
 use crate::jobs::{claim, commit};
 use crate::stores::{Loss, lose_at};
 use crate::within_limits::let_worker_act;
-use log_entries::{Entry, Event};
+use log_entries::Event;
 use protocol_data::{ClusterState, CommitInput, WorkerContext};
-use sequence::Seq;
 use std::alloc::{AllocError, Global};
 use worker_acts::Act;
 
-/// What the event makes of the whole, with what is handed in. The entries that it adds behind its own are given back; none where a limit would
-/// be passed, and nothing is changed then. After an error nothing is said of the whole.
+/// What the event makes of the whole, with what is handed in: it is told whether it is taken. The entries that it adds behind its own are left in the
+/// context then; where a limit would be passed it isn't taken, and nothing is changed. After an error nothing is said of the whole.
 pub fn happen(
     alloc: Global,
     whole: &mut ClusterState,
     here: &mut WorkerContext,
     event: &Event,
     handed: CommitInput,
-) -> Result<Option<Seq<Entry>>, AllocError>
+) -> Result<bool, AllocError>
     ensures whole { OnOk result (whole.new ≡ whole_limited whole.old (happens whole.old event.now handed)) }
-    ensures entries { IfOk result (λ given. given ≡ entries_limited (happens whole.old event.now handed)) }
+    ensures entries { IfOk result (λ taken. if_taken taken here.new.there.out.entries ≡ entries_limited (happens whole.old event.now handed)) }
 {
     match event {
         Event::Claim(worker) => claim(alloc, whole, here, *worker),
@@ -46,10 +46,18 @@ pub fn happen(
             *worker,
             &Act::LearnNodeDied(*dead),
         ),
-        Event::Evict { node, object } => lose_at(alloc, whole, *node, *object, Loss::Evicted),
-        Event::Lose { node, object } => lose_at(alloc, whole, *node, *object, Loss::Lost),
+        Event::Evict { node, object } => {
+            Ok(lose_at(whole, &mut here.there, *node, *object, Loss::Evicted))
+        },
+        Event::Lose { node, object } => Ok(lose_at(
+            whole,
+            &mut here.there,
+            *node,
+            *object,
+            Loss::Lost,
+        )),
         Event::Kill(worker) => kill(alloc, whole, &mut here.there, *worker),
-        Event::KillNode(node) => kill_node(alloc, whole, *node),
-        Event::Join => join(alloc, whole),
+        Event::KillNode(node) => kill_node(alloc, whole, &mut here.there, *node),
+        Event::Join => join(alloc, whole, &mut here.there),
     }
 }

@@ -2,6 +2,7 @@
 
 ghost use Rattle.std.specs.Prelude.{◌≡◌, ◌<◌, ◌+◌, ◌++◌, ◌∷◌, [], IfOk, OnOk, false, length};
 ghost use Rattle.step_laws.specs.Limits.{entries_limited, whole_limited};
+ghost use Rattle.cluster_events.specs.Told.{if_taken};
 ghost use Rattle.protocol.specs.Events.{as_committed, claimed, committed};
 ghost use Rattle.protocol.specs.Jobs.{OfJob};
 ghost use Rattle.protocol.specs.Numbered.{changed_at};
@@ -11,10 +12,8 @@ use crate::births::with_made;
 use crate::counting::nothing;
 use crate::within_limits::let_act;
 use ids::WorkerId;
-use log_entries::Entry;
 use number_lists::place_of;
 use protocol_data::{ClusterState, CommitInput, JobRecord, Outcomes, WorkerContext};
-use sequence::Seq;
 use std::alloc::{AllocError, Global};
 use worker_acts::Act;
 
@@ -42,17 +41,17 @@ pub fn claim(
     whole: &mut ClusterState,
     here: &mut WorkerContext,
     worker: WorkerId,
-) -> Result<Option<Seq<Entry>>, AllocError>
+) -> Result<bool, AllocError>
     ensures whole { OnOk result (whole.new ≡ whole_limited whole.old (claimed whole.old worker)) }
-    ensures entries { IfOk result (λ given. given ≡ entries_limited (claimed whole.old worker)) }
+    ensures entries { IfOk result (λ taken. if_taken taken here.new.there.out.entries ≡ entries_limited (claimed whole.old worker)) }
 {
     let job = next_job(whole);
     let made = whole.made;
-    let Some(entries) = let_act(alloc, whole, here, worker, &Act::Claim(job), made)? else {
-        return Ok(None);
-    };
+    if !let_act(alloc, whole, here, worker, &Act::Claim(job), made)? {
+        return Ok(false);
+    }
     add_job(whole, worker)?;
-    Ok(Some(entries))
+    Ok(true)
 }
 
 /// The job at the place was committed, and there are so many objects now.
@@ -74,22 +73,22 @@ fn commit_outcomes(
     here: &mut WorkerContext,
     job: u64,
     outcomes: Outcomes,
-) -> Result<Option<Seq<Entry>>, AllocError>
+) -> Result<bool, AllocError>
     ensures whole { OnOk result (whole.new ≡ whole_limited whole.old (committed whole.old job (OfJob outcomes))) }
-    ensures entries { IfOk result (λ given. given ≡ entries_limited (committed whole.old job (OfJob outcomes))) }
+    ensures entries { IfOk result (λ taken. if_taken taken here.new.there.out.entries ≡ entries_limited (committed whole.old job (OfJob outcomes))) }
 {
     let Some(place) = place_of(job, whole.jobs.len()) else {
-        return Ok(nothing(alloc, whole, whole.made));
+        return Ok(nothing(whole, &mut here.there, whole.made));
     };
     let worker = whole.jobs.get(place).worker;
     let Some(made) = with_made(whole.made, &outcomes.births) else {
-        return Ok(None);
+        return Ok(false);
     };
-    let Some(entries) = let_act(alloc, whole, here, worker, &Act::Commit(outcomes), made)? else {
-        return Ok(None);
-    };
+    if !let_act(alloc, whole, here, worker, &Act::Commit(outcomes), made)? {
+        return Ok(false);
+    }
     note_commit(whole, place, job, made);
-    Ok(Some(entries))
+    Ok(true)
 }
 
 /// What is handed in is committed as what was done on the job.
@@ -99,12 +98,12 @@ pub fn commit(
     here: &mut WorkerContext,
     job: u64,
     handed: CommitInput,
-) -> Result<Option<Seq<Entry>>, AllocError>
+) -> Result<bool, AllocError>
     ensures whole { OnOk result (whole.new ≡ whole_limited whole.old (committed whole.old job handed)) }
-    ensures entries { IfOk result (λ given. given ≡ entries_limited (committed whole.old job handed)) }
+    ensures entries { IfOk result (λ taken. if_taken taken here.new.there.out.entries ≡ entries_limited (committed whole.old job handed)) }
 {
     match handed {
         CommitInput::OfJob(outcomes) => commit_outcomes(alloc, whole, here, job, outcomes),
-        _ => Ok(nothing(alloc, whole, whole.made)),
+        _ => Ok(nothing(whole, &mut here.there, whole.made)),
     }
 }

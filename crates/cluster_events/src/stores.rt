@@ -1,19 +1,17 @@
 // Copies that are evicted or lost.
 
-ghost use Rattle.std.specs.Prelude.{◌≡◌, ◌<◌, ◌+◌, IfOk, OnOk, length};
+ghost use Rattle.std.specs.Prelude.{◌≡◌, ◌<◌, ◌+◌, length};
 ghost use Rattle.step_laws.specs.Limits.{entries_limited, whole_limited};
+ghost use Rattle.cluster_events.specs.Told.{if_taken};
 ghost use Rattle.protocol.specs.Events.{store_does};
 ghost use Rattle.protocol.specs.Numbered.{changed_at};
 ghost use Rattle.cluster_events.specs.Losses.{behind};
 
 use crate::counting::{fits, nothing};
-use cluster_steps::node_place;
+use cluster_steps::{log_nothing, node_place};
 use ids::{NodeId, ObjectId};
-use log_entries::Entry;
 use object_store::{remove_copies, remove_secondaries};
-use protocol_data::{ClusterState, Store};
-use sequence::Seq;
-use std::alloc::{AllocError, Global};
+use protocol_data::{ClusterState, NodeContext, Store};
 
 /// Which copies of an object go at a node.
 #[derive(Clone, Copy)]
@@ -47,21 +45,22 @@ fn lose_there(whole: &mut ClusterState, place: usize, number: NodeId, object: Ob
 
 /// The copies of the object at the node go.
 pub fn lose_at(
-    alloc: Global,
     whole: &mut ClusterState,
+    context: &mut NodeContext,
     number: NodeId,
     object: ObjectId,
     loss: Loss,
-) -> Result<Option<Seq<Entry>>, AllocError>
-    ensures whole { OnOk result (whole.new ≡ whole_limited whole.old (store_does whole.old number (λ s. behind loss object s))) }
-    ensures entries { IfOk result (λ given. given ≡ entries_limited (store_does whole.old number (λ s. behind loss object s))) }
+) -> bool
+    ensures whole { whole.new ≡ whole_limited whole.old (store_does whole.old number (λ s. behind loss object s)) }
+    ensures entries { if_taken result context.new.out.entries ≡ entries_limited (store_does whole.old number (λ s. behind loss object s)) }
 {
     let Some(place) = node_place(whole, number) else {
-        return Ok(nothing(alloc, whole, whole.made));
+        return nothing(whole, context, whole.made);
     };
     if !fits(whole, 0, whole.made) {
-        return Ok(None);
+        return false;
     }
     lose_there(whole, place, number, object, loss);
-    Ok(Some(Seq::new(alloc)))
+    log_nothing(context);
+    true
 }

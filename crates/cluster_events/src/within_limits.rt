@@ -4,19 +4,17 @@ ghost use Rattle.std.specs.Prelude.{◌≡◌, IfOk, OnOk};
 ghost use Rattle.step_laws.specs.Limits.{entries_limited, entries_within, whole_limited, whole_within};
 ghost use Rattle.protocol.specs.Cluster.{worker_does};
 ghost use Rattle.worker_acts.specs.Acts.{act_step};
+ghost use Rattle.cluster_events.specs.Told.{if_taken};
 
 use crate::acting::{act, act_or_restore};
 use crate::counting::fits;
 use ids::WorkerId;
-use log_entries::Entry;
 use protocol_data::{ClusterState, WorkerContext};
-use sequence::Seq;
 use std::alloc::{AllocError, Global};
 use worker_acts::Act;
 
-/// The worker of that number does its part in an event, after which there are so many objects. The entries that this adds are given back;
-/// none where a limit would be passed, and nothing is changed then. An event opens one worker at most: with room for that one, nothing need be
-/// kept.
+/// The worker of that number does its part in an event, after which there are so many objects, and the entries that this adds are left in the context;
+/// or it is told that a limit would be passed, and nothing is changed. An event opens one worker at most: with room for that one, nothing need be kept.
 pub fn let_act(
     alloc: Global,
     whole: &mut ClusterState,
@@ -24,16 +22,16 @@ pub fn let_act(
     number: WorkerId,
     what: &Act,
     made: u64,
-) -> Result<Option<Seq<Entry>>, AllocError>
+) -> Result<bool, AllocError>
     ensures whole { OnOk result (whole.new ≡ whole_within made whole.old (worker_does whole.old number (act_step what.now))) }
-    ensures entries { IfOk result (λ given. given ≡ entries_within made (worker_does whole.old number (act_step what.now))) }
+    ensures entries { IfOk result (λ taken. if_taken taken here.new.there.out.entries ≡ entries_within made (worker_does whole.old number (act_step what.now))) }
 {
     if !fits(whole, 0, made) {
-        return Ok(None);
+        return Ok(false);
     }
     if whole.workers.len() < 1024 {
-        let entries = act(alloc, whole, here, number, what)?;
-        return Ok(Some(entries));
+        act(alloc, whole, here, number, what)?;
+        return Ok(true);
     }
     act_or_restore(alloc, whole, here, number, what, made)
 }
@@ -45,9 +43,9 @@ pub fn let_worker_act(
     here: &mut WorkerContext,
     number: WorkerId,
     what: &Act,
-) -> Result<Option<Seq<Entry>>, AllocError>
+) -> Result<bool, AllocError>
     ensures whole { OnOk result (whole.new ≡ whole_limited whole.old (worker_does whole.old number (act_step what.now))) }
-    ensures entries { IfOk result (λ given. given ≡ entries_limited (worker_does whole.old number (act_step what.now))) }
+    ensures entries { IfOk result (λ taken. if_taken taken here.new.there.out.entries ≡ entries_limited (worker_does whole.old number (act_step what.now))) }
 {
     let made = whole.made;
     let_act(alloc, whole, here, number, what, made)

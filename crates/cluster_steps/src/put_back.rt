@@ -1,6 +1,6 @@
 // Nodes and workers that are put back.
 
-ghost use Rattle.std.specs.Prelude.{◌≡◌, ◌<◌, ◌+◌, ◌++◌, [], OnOk, IfOk, Some, length, slice_get, slice_set};
+ghost use Rattle.std.specs.Prelude.{◌≡◌, ◌<◌, ◌+◌, ◌++◌, [], OnOk, Some, length, slice_get, slice_set};
 ghost use Rattle.protocol.specs.Numbered.{changed_at};
 ghost use Rattle.protocol.specs.Sets.{repeated};
 ghost use Rattle.protocol.specs.Tables.{new_worker};
@@ -8,7 +8,6 @@ ghost use Rattle.protocol.specs.Cluster.{after_node, after_worker, undelivered};
 
 use crate::take_out::new_worker;
 use ids::{NodeId, WorkerId};
-use log_entries::Entry;
 use protocol_data::{ClusterState, Envelope, NodeContext, Worker, WorkerContext};
 use row::Row;
 use sequence::Seq;
@@ -61,7 +60,8 @@ fn put_over<T>(items: &mut Seq<T>, place: usize, number: u64, item: &mut T)
     lay(items, place, item);
 }
 
-/// The node at that place is put back, with what it made; what stood in its place is in the context again. The entries are given back.
+/// The node at that place is put back, with what it made, but for the entries: these are left in the context, in which what stood in the node's place
+/// is again.
 #[inline(always)]
 pub fn leave_node(
     alloc: Global,
@@ -69,11 +69,11 @@ pub fn leave_node(
     place: usize,
     number: NodeId,
     context: &mut NodeContext,
-) -> Result<Seq<Entry>, AllocError>
+) -> Result<(), AllocError>
     requires place_in { place < length whole.old.nodes }
     requires number { number ≡ 1 + place }
     ensures whole { OnOk result (whole.new ≡ (after_node whole.old number context.old).whole) }
-    ensures entries { IfOk result (λ entries. entries ≡ (after_node whole.old number context.old).out.entries) }
+    ensures entries { OnOk result (context.new.out.entries ≡ (after_node whole.old number context.old).out.entries) }
 {
     put_over(
         &mut whole.nodes,
@@ -87,10 +87,11 @@ pub fn leave_node(
         .network
         .items
         .append(&mut context.out.envelopes.items)?;
-    Ok(mem::replace(&mut context.out.entries, Seq::new(alloc)))
+    Ok(())
 }
 
-/// The worker and its node are put back, with what they made; what stood in their places is in the context again. The entries are given back.
+/// The worker and its node are put back, with what they made, but for the entries: these are left in the context, in which what stood in their places
+/// is again.
 #[inline(always)]
 pub fn leave(
     alloc: Global,
@@ -100,13 +101,13 @@ pub fn leave(
     number: WorkerId,
     node: NodeId,
     here: &mut WorkerContext,
-) -> Result<Seq<Entry>, AllocError>
+) -> Result<(), AllocError>
     requires place_in { place < length whole.old.workers }
     requires number { number ≡ 1 + place }
     requires node_place_in { node_place < length whole.old.nodes }
     requires node_number { node ≡ 1 + node_place }
     ensures whole { OnOk result (whole.new ≡ (after_worker whole.old number node here.old).whole) }
-    ensures entries { IfOk result (λ entries. entries ≡ (after_worker whole.old number node here.old).out.entries) }
+    ensures entries { OnOk result (here.new.there.out.entries ≡ (after_worker whole.old number node here.old).out.entries) }
 {
     put_over(
         &mut whole.workers,

@@ -178,6 +178,13 @@ pub fn clear_context(alloc: Global, here: &mut WorkerContext) {
     here.there.out = no_out(alloc);
 }
 
+/// Nothing is logged.
+pub fn log_nothing(context: &mut NodeContext)
+    ensures { context.new ≡ record context.old { out = record context.old.out { entries = [] } } }
+{
+    context.out.entries.items.clear();
+}
+
 /// Where the node of that number stands, counted from 0; none where there never was one.
 #[tactic(auto, using(number_lists::proofs::Places::no_item))]
 pub fn node_place(whole: &ClusterState, number: NodeId) -> Option<usize>

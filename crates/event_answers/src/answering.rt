@@ -10,7 +10,9 @@ use cluster_events::happen;
 use log_entries::{Event, Refusal};
 use protocol_data::{ClusterState, CommitInput, WorkerContext};
 use refusals::refusal;
+use sequence::Seq;
 use std::alloc::{AllocError, Global};
+use std::mem;
 
 /// One event of the whole run, with what is handed in. It is refused, and nothing changes; or it is taken. After an error, which is want of
 /// memory or of a number, nothing is said of the whole.
@@ -29,9 +31,10 @@ pub fn answer(
         return Ok(reply);
     }
     let given = given_out(alloc, whole, event)?;
-    let Some(entries) = happen(alloc, whole, here, event, handed)? else {
+    if !happen(alloc, whole, here, event, handed)? {
         let reply = refused(alloc, Refusal::Limit)?;
         return Ok(reply);
-    };
+    }
+    let entries = mem::replace(&mut here.there.out.entries, Seq::new(alloc));
     Ok(taken(entries, given))
 }

@@ -1,4 +1,4 @@
-use Rattle.std.proofs.Common.{◌≡◌, OnOk, IfOk, Some, ap, sym, ◌∙◌, subst}
+use Rattle.std.proofs.Common.{◌≡◌, OnOk, Some, ap, sym, ◌∙◌, subst}
 use Rattle.protocol.specs.Steps.{WorkerContext}
 use Rattle.cluster_steps.proofs.Returns.{taken_here, worker_done}
 use Rattle.worker_acts.specs.Acts.{act_step}
@@ -33,7 +33,7 @@ returns-clause-entries c =
     let begun =
     taken_here old c.in-Some.place c.args.number c.deref.result.now t.new.here.worker t.new.here.there.node t.new.here stood t.ensures.worker_taken
     t.ensures.here in
-    subst (λ m. IfOk c.leave.result (λ entries. entries ≡ m.out.entries))
+    subst (λ m. OnOk c.leave.result (c.leave.new.here.there.out.entries ≡ m.out.entries))
     (worker_done old t.new.whole c.in-Some.place c.in-Some-node_place.node_place c.args.number c.args.here.now.worker c.deref.result.now c.args.here.now.there.node
     t.new.here.there.node f t.new.here c.take_part.new.here there.1 there.0 beside.1 beside.0 t.ensures.left stood t.ensures.node_taken begun
     c.in_ok-take_part.ensures)

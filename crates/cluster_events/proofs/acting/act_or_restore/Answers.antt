@@ -5,6 +5,7 @@ use Rattle.protocol.specs.Releases.{release_step}
 use Rattle.protocol.specs.Steps.{WorkerContext}
 use Rattle.cluster_steps.proofs.Returns.{taken_here, worker_done, worker_none}
 use Rattle.worker_acts.specs.Acts.{act_step}
+use Rattle.cluster_events.specs.Told.{if_taken}
 use Rattle.cluster_events.proofs.acting.act_or_restore.Goals as goal
 
 -- without a worker of that number nothing is done, and no limit is passed
@@ -49,7 +50,7 @@ returns-in-Ok-clause-entries c =
     let begun =
     taken_here old c.in-Some.place c.args.number c.deref.result.now t.new.here.worker t.new.here.there.node t.new.here stood t.ensures.worker_taken
     t.ensures.here in
-    subst (λ m. IfOk c.put_within.result (λ given. given ≡ entries_within c.args.made m))
+    subst (λ m. IfOk c.put_within.result (λ taken. if_taken taken c.put_within.new.here.there.out.entries ≡ entries_within c.args.made m))
     (worker_done old t.new.whole c.in-Some.place c.in-Some-node_place.node_place c.args.number c.args.here.now.worker c.deref.result.now c.args.here.now.there.node
     t.new.here.there.node f t.new.here c.take_part.new.here there.1 there.0 beside.1 beside.0 t.ensures.left stood t.ensures.node_taken begun
     (subst (λ r. OnOk r (c.take_part.new.here ≡ release_step (f t.new.here))) c.in-Ok.is c.take_part.ensures))

@@ -11,13 +11,13 @@ pub returns-then-fits-clause-whole : goal.returns-then-fits-clause-whole
 returns-then-fits-clause-whole c =
     let old = c.args.whole.now in
     let e = ap (λ k. fits (length old.nodes) (length old.workers + k) c.args.made) (sym c.from.ensures) ∙ sym c.if-fits.ensures in
-    λ before w n was. c.in_ok-entries.ensures.whole ∙ sym (worker_taken before old c.args.made c.args.number c.args.node c.args.here.now e).whole
+    λ before w n was. c.in_ok-leave.ensures.whole ∙ sym (worker_taken before old c.args.made c.args.number c.args.node c.args.here.now e).whole
 
 pub returns-then-fits-clause-entries : goal.returns-then-fits-clause-entries
 returns-then-fits-clause-entries c =
     let old = c.args.whole.now in
     let e = ap (λ k. fits (length old.nodes) (length old.workers + k) c.args.made) (sym c.from.ensures) ∙ sym c.if-fits.ensures in
-    ap Some c.in_ok-entries.ensures.entries ∙ sym (worker_taken old old c.args.made c.args.number c.args.node c.args.here.now e).entries
+    ap Some c.in_ok-leave.ensures.entries ∙ sym (worker_taken old old c.args.made c.args.number c.args.node c.args.here.now e).entries
 
 -- else they are put back as they were, which is the whole as it was
 pub returns-clause-whole : goal.returns-clause-whole

@@ -12,7 +12,7 @@ returns-clause-whole c =
     let x = c.deref.result.now in
     let e = c.if-not-fits.ensures ∙ ap (λ k. fits (length old.nodes) (length old.workers + k) old.made) c.in_ok-opened.ensures in
     let d = dies old c.in-Some.place c.args.number x c.in-Some.ensures.found.0 stood e in
-    c.in_ok-entries.ensures.whole ∙ ap (λ b. (node_does b x.node (λ h. forgets h c.args.number)).whole) c.mark_dead.ensures ∙ sym d.whole
+    c.in_ok-forget_at_node.ensures.whole ∙ ap (λ b. (node_does b x.node (λ h. forgets h c.args.number)).whole) c.mark_dead.ensures ∙ sym d.whole
 
 pub returns-clause-entries : goal.returns-clause-entries
 returns-clause-entries c =
@@ -21,5 +21,5 @@ returns-clause-entries c =
     let x = c.deref.result.now in
     let e = c.if-not-fits.ensures ∙ ap (λ k. fits (length old.nodes) (length old.workers + k) old.made) c.in_ok-opened.ensures in
     let d = dies old c.in-Some.place c.args.number x c.in-Some.ensures.found.0 stood e in
-    ap Some (c.in_ok-entries.ensures.entries ∙ ap (λ b. (node_does b x.node (λ h. forgets h c.args.number)).out.entries) c.mark_dead.ensures)
+    ap Some (c.in_ok-forget_at_node.ensures.entries ∙ ap (λ b. (node_does b x.node (λ h. forgets h c.args.number)).out.entries) c.mark_dead.ensures)
     ∙ sym d.entries

@@ -1,6 +1,7 @@
 use Rattle.std.proofs.Common.{◌≡◌, IfOk, OnOk, sym, subst}
 use Rattle.step_laws.specs.Limits.{entries_limited, whole_limited}
 use Rattle.protocol.specs.Events.{happens}
+use Rattle.cluster_events.specs.Told.{if_taken}
 use Rattle.cluster_events.proofs.happening.happen.Goals as goal
 
 pub returns-in-Notice-clause-whole : goal.returns-in-Notice-clause-whole
@@ -12,7 +13,7 @@ returns-in-Notice-clause-whole c =
 pub returns-in-Notice-clause-entries : goal.returns-in-Notice-clause-entries
 returns-in-Notice-clause-entries c =
     let t = c.let_worker_act-in-Notice in
-    subst (λ e. IfOk t.result (λ given. given ≡ entries_limited (happens c.args.whole.now e c.args.handed))) (sym c.in-Notice.is) t.ensures.entries
+    subst (λ e. IfOk t.result (λ taken. if_taken taken t.new.here.there.out.entries ≡ entries_limited (happens c.args.whole.now e c.args.handed))) (sym c.in-Notice.is) t.ensures.entries
 
 pub returns-in-NoticeNode-clause-whole : goal.returns-in-NoticeNode-clause-whole
 returns-in-NoticeNode-clause-whole c =
@@ -23,5 +24,5 @@ returns-in-NoticeNode-clause-whole c =
 pub returns-in-NoticeNode-clause-entries : goal.returns-in-NoticeNode-clause-entries
 returns-in-NoticeNode-clause-entries c =
     let t = c.let_worker_act-in-NoticeNode in
-    subst (λ e. IfOk t.result (λ given. given ≡ entries_limited (happens c.args.whole.now e c.args.handed))) (sym c.in-NoticeNode.is)
+    subst (λ e. IfOk t.result (λ taken. if_taken taken t.new.here.there.out.entries ≡ entries_limited (happens c.args.whole.now e c.args.handed))) (sym c.in-NoticeNode.is)
     t.ensures.entries

@@ -11,10 +11,10 @@ ghost use Rattle.cluster_events.specs.Kept.{IsKept, IsLeft, put_into};
 ghost use Rattle.cluster_events.specs.Told.{if_taken};
 
 use crate::counting::{fits, nothing};
+use boxed_value::Boxed;
 use cluster_steps::{enter, exchange, leave, log_nothing, node_place, worker_place};
 use ids::{NodeId, WorkerId};
 use protocol_data::{ClusterState, Node, Worker, WorkerContext};
-use row::Row;
 use std::alloc::{AllocError, Global};
 use worker_acts::{Act, take_part};
 
@@ -47,9 +47,9 @@ pub fn act(
 #[derive(Drop)]
 pub struct Kept {
     /// The worker's tables before the event.
-    pub worker: Row<Worker>,
+    pub worker: Boxed<Worker>,
     /// Its node's tables before the event.
-    pub node: Row<Node>,
+    pub node: Boxed<Node>,
 }
 
 /// The worker and its node are kept.
@@ -63,11 +63,11 @@ fn keep(
     requires node { node_place < length whole.now.nodes }
     ensures { IfOk result (λ kept. IsKept kept whole.now place node_place) }
 {
-    let worker = Row::new(alloc, whole.workers.get(place).copy(alloc)?)?;
+    let worker = Boxed::new(alloc, whole.workers.get(place).copy(alloc)?)?;
     match whole.nodes.get(node_place).copy(alloc) {
         Ok(node) => Ok(Kept {
             worker,
-            node: Row::new(alloc, node)?,
+            node: Boxed::new(alloc, node)?,
         }),
         Err(error) => {
             drop(worker);
@@ -80,7 +80,10 @@ fn keep(
 fn put_again(whole: &mut ClusterState, place: usize, node_place: usize, kept: Kept)
     requires worker { place < length whole.old.workers }
     requires node { node_place < length whole.old.nodes }
-    ensures { whole.new ≡ record whole.old { workers = slice_set whole.old.workers place kept.worker; nodes = slice_set whole.old.nodes node_place kept.node } }
+    ensures { whole.new ≡ record whole.old {
+      workers = slice_set whole.old.workers place kept.worker;
+      nodes = slice_set whole.old.nodes node_place kept.node;
+    } }
 {
     whole.workers.set(place, kept.worker);
     whole.nodes.set(node_place, kept.node);
@@ -102,7 +105,8 @@ fn put_within(
     requires number { number ≡ 1 + place }
     requires node_place_in { node_place < length whole.old.nodes }
     requires node_number { node ≡ 1 + node_place }
-    ensures whole { (c : ClusterState) (w : Worker) (n : Node) → IsLeft kept c place node_place w n whole.old → OnOk result (whole.new ≡ put_into made c whole.old number node here.old) }
+    ensures whole { (c : ClusterState) (w : Worker) (n : Node) → IsLeft kept c place node_place w n whole.old
+        → OnOk result (whole.new ≡ put_into made c whole.old number node here.old) }
     ensures entries { IfOk result (λ taken. if_taken taken here.new.there.out.entries ≡ entries_within made (after_worker whole.old number node here.old)) }
 {
     if fits(whole, u64::from(here.there.opened), made) {
@@ -117,6 +121,7 @@ fn put_within(
 
 /// The worker of that number does its part in an event, after which there are so many objects. It is told whether that was within the limits; the worker
 /// and its node are kept meanwhile, and where a limit would be passed they stand again as they were.
+#[inline(never)]
 pub fn act_or_restore(
     alloc: Global,
     whole: &mut ClusterState,
@@ -126,7 +131,8 @@ pub fn act_or_restore(
     made: u64,
 ) -> Result<bool, AllocError>
     ensures whole { OnOk result (whole.new ≡ whole_within made whole.old (worker_does whole.old number (act_step what.now))) }
-    ensures entries { IfOk result (λ taken. if_taken taken here.new.there.out.entries ≡ entries_within made (worker_does whole.old number (act_step what.now))) }
+    ensures entries { IfOk result (λ taken. if_taken taken here.new.there.out.entries
+        ≡ entries_within made (worker_does whole.old number (act_step what.now))) }
 {
     let Some(place) = worker_place(whole, number) else {
         return Ok(nothing(whole, &mut here.there, made));

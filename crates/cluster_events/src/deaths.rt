@@ -7,11 +7,10 @@ ghost use Rattle.protocol.specs.Events.{dead, dead_node, dies_with, joined, kill
 ghost use Rattle.protocol.specs.Numbered.{changed_at};
 
 use crate::counting::{fits, nothing, opened_by_death};
+use boxed_value::Boxed;
 use cluster_steps::{forget_at_node, log_nothing, new_node, node_place, worker_place};
 use ids::{NodeId, WorkerId};
-use protocol_data::{ClusterState, NodeContext, Worker};
-use row::Row;
-use sequence::Seq;
+use protocol_data::{ClusterState, NodeContext, Worker, Workers};
 use std::alloc::{AllocError, Global};
 use std::mem;
 
@@ -21,12 +20,11 @@ fn mark_dead(whole: &mut ClusterState, place: usize, number: WorkerId)
     requires number { number ≡ 1 + place }
     ensures { whole.new ≡ record whole.old { workers = changed_at whole.old.workers number dead } }
 {
-    let workers = &mut whole.workers;
-    let worker = &mut workers.items[place];
-    worker.is_live = false;
+    whole.workers.kill(place);
 }
 
 /// The worker dies, and its node knows it.
+#[inline(never)]
 pub fn kill(
     alloc: Global,
     whole: &mut ClusterState,
@@ -50,7 +48,7 @@ pub fn kill(
 }
 
 /// The worker dies where it is the node's.
-fn die_with(worker: Row<Worker>, node: NodeId) -> Row<Worker>
+fn die_with(worker: Boxed<Worker>, node: NodeId) -> Boxed<Worker>
     ensures { result ≡ dies_with node worker }
 {
     let mut worker = worker;
@@ -61,15 +59,11 @@ fn die_with(worker: Row<Worker>, node: NodeId) -> Row<Worker>
 }
 
 /// These workers, of which those of the node are dead.
-fn all_die_with(
-    alloc: Global,
-    workers: Seq<Row<Worker>>,
-    node: NodeId,
-) -> Result<Seq<Row<Worker>>, AllocError>
+fn all_die_with(alloc: Global, workers: Workers, node: NodeId) -> Result<Workers, AllocError>
     ensures { IfOk result (λ xs. xs ≡ map (dies_with node) workers) }
 {
-    let mut others = Seq::new(alloc);
-    for worker in workers.items {
+    let mut others = Workers::new(alloc);
+    for worker in workers.into_rows().items {
         others.push(die_with(worker, node))?;
     }
     Ok(others)
@@ -79,7 +73,7 @@ fn all_die_with(
 fn workers_die(alloc: Global, whole: &mut ClusterState, node: NodeId) -> Result<(), AllocError>
     ensures { OnOk result (whole.new ≡ record whole.old { workers = map (dies_with node) whole.old.workers }) }
 {
-    let workers = mem::replace(&mut whole.workers, Seq::new(alloc));
+    let workers = mem::replace(&mut whole.workers, Workers::new(alloc));
     whole.workers = all_die_with(alloc, workers, node)?;
     Ok(())
 }
@@ -106,6 +100,7 @@ fn node_dies(whole: &mut ClusterState, number: NodeId)
 }
 
 /// The node and its workers die.
+#[inline(never)]
 pub fn kill_node(
     alloc: Global,
     whole: &mut ClusterState,
@@ -125,6 +120,7 @@ pub fn kill_node(
 }
 
 /// A node with the next number comes.
+#[inline(never)]
 pub fn join(
     alloc: Global,
     whole: &mut ClusterState,
@@ -140,7 +136,9 @@ pub fn join(
         return Ok(false);
     }
     let slots = whole.slots;
-    whole.nodes.push(Row::new(alloc, new_node(alloc, slots))?)?;
+    whole
+        .nodes
+        .push(Boxed::new(alloc, new_node(alloc, slots))?)?;
     log_nothing(context);
     Ok(true)
 }

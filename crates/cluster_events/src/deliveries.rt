@@ -46,7 +46,8 @@ fn hand_over(
     envelope: Envelope,
 ) -> Result<bool, AllocError>
     ensures whole { OnOk result (whole.new ≡ whole_limited whole.old (delivered_to whole.old envelope envelope.receiver)) }
-    ensures entries { IfOk result (λ taken. if_taken taken here.new.there.out.entries ≡ entries_limited (delivered_to whole.old envelope envelope.receiver)) }
+    ensures entries { IfOk result (λ taken. if_taken taken here.new.there.out.entries
+        ≡ entries_limited (delivered_to whole.old envelope envelope.receiver)) }
 {
     let Envelope {
         sender,
@@ -88,6 +89,7 @@ fn mark(whole: &mut ClusterState, place: usize)
 }
 
 /// The message of that number reaches its receiver, once more if it did before.
+#[inline(never)]
 pub fn deliver(
     alloc: Global,
     whole: &mut ClusterState,

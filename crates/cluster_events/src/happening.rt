@@ -15,6 +15,8 @@ use protocol_data::{ClusterState, CommitInput, WorkerContext};
 use std::alloc::{AllocError, Global};
 use worker_acts::Act;
 
+// Each of these is a function of its own, so that an event doesn't set up what others need.
+
 /// What the event makes of the whole, with what is handed in: it is told whether it is taken. The entries that it adds behind its own are left in the
 /// context then; where a limit would be passed it isn't taken, and nothing is changed. After an error nothing is said of the whole.
 pub fn happen(
@@ -22,10 +24,10 @@ pub fn happen(
     whole: &mut ClusterState,
     here: &mut WorkerContext,
     event: &Event,
-    handed: CommitInput,
+    handed: &mut CommitInput,
 ) -> Result<bool, AllocError>
-    ensures whole { OnOk result (whole.new ≡ whole_limited whole.old (happens whole.old event.now handed)) }
-    ensures entries { IfOk result (λ taken. if_taken taken here.new.there.out.entries ≡ entries_limited (happens whole.old event.now handed)) }
+    ensures whole { OnOk result (whole.new ≡ whole_limited whole.old (happens whole.old event.now handed.old)) }
+    ensures entries { IfOk result (λ taken. if_taken taken here.new.there.out.entries ≡ entries_limited (happens whole.old event.now handed.old)) }
 {
     match event {
         Event::Claim(worker) => claim(alloc, whole, here, *worker),

@@ -15,6 +15,7 @@ use ids::WorkerId;
 use number_lists::place_of;
 use protocol_data::{ClusterState, CommitInput, JobRecord, Outcomes, WorkerContext};
 use std::alloc::{AllocError, Global};
+use std::mem;
 use worker_acts::Act;
 
 /// The number of the next job.
@@ -36,6 +37,7 @@ fn add_job(whole: &mut ClusterState, worker: WorkerId) -> Result<(), AllocError>
 }
 
 /// The worker's attempt is given out as the next job.
+#[inline(never)]
 pub fn claim(
     alloc: Global,
     whole: &mut ClusterState,
@@ -91,18 +93,19 @@ fn commit_outcomes(
     Ok(true)
 }
 
-/// What is handed in is committed as what was done on the job.
+/// What is handed in is taken, and committed as what was done on the job.
+#[inline(never)]
 pub fn commit(
     alloc: Global,
     whole: &mut ClusterState,
     here: &mut WorkerContext,
     job: u64,
-    handed: CommitInput,
+    handed: &mut CommitInput,
 ) -> Result<bool, AllocError>
-    ensures whole { OnOk result (whole.new ≡ whole_limited whole.old (committed whole.old job handed)) }
-    ensures entries { IfOk result (λ taken. if_taken taken here.new.there.out.entries ≡ entries_limited (committed whole.old job handed)) }
+    ensures whole { OnOk result (whole.new ≡ whole_limited whole.old (committed whole.old job handed.old)) }
+    ensures entries { IfOk result (λ taken. if_taken taken here.new.there.out.entries ≡ entries_limited (committed whole.old job handed.old)) }
 {
-    match handed {
+    match mem::replace(handed, CommitInput::Nothing) {
         CommitInput::OfJob(outcomes) => commit_outcomes(alloc, whole, here, job, outcomes),
         _ => Ok(nothing(whole, &mut here.there, whole.made)),
     }

@@ -14,6 +14,7 @@ use std::alloc::{AllocError, Global};
 
 /// A message reaches the node of that number, and the entries that it adds are left in the context; or it is told that a limit would be passed, and
 /// nothing is changed.
+#[inline(never)]
 pub fn deliver_to_node_within(
     alloc: Global,
     whole: &mut ClusterState,
@@ -23,7 +24,8 @@ pub fn deliver_to_node_within(
     message: &Message,
 ) -> Result<bool, AllocError>
     ensures whole { OnOk result (whole.new ≡ whole_within whole.old.made whole.old (node_does whole.old number (λ h. node_reached h sender message.now))) }
-    ensures entries { IfOk result (λ taken. if_taken taken context.new.out.entries ≡ entries_within whole.old.made (node_does whole.old number (λ h. node_reached h sender message.now))) }
+    ensures entries { IfOk result (λ taken. if_taken taken context.new.out.entries
+        ≡ entries_within whole.old.made (node_does whole.old number (λ h. node_reached h sender message.now))) }
 {
     let opened = opened_at(whole, number, &sender, message);
     if !fits(whole, opened, whole.made) {

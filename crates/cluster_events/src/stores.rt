@@ -44,6 +44,7 @@ fn lose_there(whole: &mut ClusterState, place: usize, number: NodeId, object: Ob
 }
 
 /// The copies of the object at the node go.
+#[inline(never)]
 pub fn lose_at(
     whole: &mut ClusterState,
     context: &mut NodeContext,

@@ -24,7 +24,8 @@ pub fn let_act(
     made: u64,
 ) -> Result<bool, AllocError>
     ensures whole { OnOk result (whole.new ≡ whole_within made whole.old (worker_does whole.old number (act_step what.now))) }
-    ensures entries { IfOk result (λ taken. if_taken taken here.new.there.out.entries ≡ entries_within made (worker_does whole.old number (act_step what.now))) }
+    ensures entries { IfOk result (λ taken. if_taken taken here.new.there.out.entries
+        ≡ entries_within made (worker_does whole.old number (act_step what.now))) }
 {
     if !fits(whole, 0, made) {
         return Ok(false);
@@ -37,6 +38,7 @@ pub fn let_act(
 }
 
 /// The worker of that number does its part in an event that bears nothing.
+#[inline(never)]
 pub fn let_worker_act(
     alloc: Global,
     whole: &mut ClusterState,

@@ -7,9 +7,9 @@ ghost use Rattle.protocol.specs.Tables.{new_worker};
 ghost use Rattle.protocol.specs.Cluster.{after_node, after_worker, undelivered};
 
 use crate::take_out::new_worker;
+use boxed_value::Boxed;
 use ids::{NodeId, WorkerId};
-use protocol_data::{ClusterState, Envelope, NodeContext, Worker, WorkerContext};
-use row::Row;
+use protocol_data::{ClusterState, Envelope, NodeContext, Worker, WorkerContext, Workers};
 use sequence::Seq;
 use std::alloc::{AllocError, Global};
 use std::mem;
@@ -18,7 +18,7 @@ use std::mem;
 #[tactic(auto, using(crate::proofs::Blanks::one_more, crate::proofs::Blanks::none_left))]
 fn add_workers(
     alloc: Global,
-    workers: &mut Seq<Row<Worker>>,
+    workers: &mut Workers,
     count: u32,
     node: NodeId,
 ) -> Result<(), AllocError>
@@ -26,7 +26,7 @@ fn add_workers(
 {
     for turn in 0..count {
         let _ = turn;
-        workers.push(Row::new(alloc, new_worker(alloc, node))?)?;
+        workers.push(Boxed::new(alloc, new_worker(alloc, node))?)?;
     }
     Ok(())
 }
@@ -60,6 +60,17 @@ fn put_over<T>(items: &mut Seq<T>, place: usize, number: u64, item: &mut T)
     lay(items, place, item);
 }
 
+/// The worker changes places with the one of that number.
+#[inline(always)]
+fn put_worker_over(workers: &mut Workers, place: usize, number: u64, worker: &mut Boxed<Worker>)
+    requires place_in { place < length workers.old }
+    requires number { number ≡ 1 + place }
+    ensures { workers.new ≡ changed_at workers.old number (λ _. worker.old) }
+{
+    workers.exchange(place, worker);
+    workers.settle(place);
+}
+
 /// The node at that place is put back, with what it made, but for the entries: these are left in the context, in which what stood in the node's place
 /// is again.
 #[inline(always)]
@@ -83,10 +94,7 @@ pub fn leave_node(
     );
     add_workers(alloc, &mut whole.workers, context.opened, number)?;
     add_undelivered(&mut whole.delivered, &context.out.envelopes)?;
-    whole
-        .network
-        .items
-        .append(&mut context.out.envelopes.items)?;
+    whole.network.append(&mut context.out.envelopes)?;
     Ok(())
 }
 
@@ -109,7 +117,7 @@ pub fn leave(
     ensures whole { OnOk result (whole.new ≡ (after_worker whole.old number node here.old).whole) }
     ensures entries { OnOk result (here.new.there.out.entries ≡ (after_worker whole.old number node here.old).out.entries) }
 {
-    put_over(
+    put_worker_over(
         &mut whole.workers,
         place,
         u64::from(number.0),

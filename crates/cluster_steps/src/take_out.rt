@@ -5,13 +5,13 @@ ghost use Rattle.protocol.specs.Nodes.{new_node, no_out};
 ghost use Rattle.protocol.specs.Tables.{new_worker};
 ghost use Rattle.protocol.specs.Cluster.{node_at, there, worker_at};
 
+use boxed_value::Boxed;
 use ids::{NodeId, WorkerId};
 use number_lists::place_of;
 use protocol_data::{
-    Asks, Attempts, ClusterState, Copies, Node, NodeContext, Objects, Outbox, Queue, Scheduler,
-    Secondaries, Store, Worker, WorkerContext,
+    Asks, Attempts, ClusterState, Copies, Leases, Node, NodeContext, Objects, Outbox, Queue,
+    Scheduler, Secondaries, Store, Worker, WorkerContext,
 };
-use row::Row;
 use sequence::Seq;
 use std::alloc::{AllocError, Global};
 use std::mem;
@@ -43,7 +43,7 @@ pub fn new_node(alloc: Global, slots: u32) -> Node
             queue: Queue::new(alloc),
             asks: Asks::new(alloc),
             idle: Seq::new(alloc),
-            leases: Seq::new(alloc),
+            leases: Leases::new(alloc),
         },
     }
 }
@@ -64,6 +64,16 @@ pub fn new_worker(alloc: Global, node: NodeId) -> Worker
     }
 }
 
+/// Leaves no item, and what room there is. Most often there is none to let go of.
+#[inline(always)]
+fn empty<T: Drop>(items: &mut Seq<T>)
+    ensures { items.new ≡ [] }
+{
+    if !items.is_empty() {
+        items.items.clear();
+    }
+}
+
 /// An event of the node of that number begins: nothing is opened or made yet.
 #[inline(always)]
 fn begin(whole: &ClusterState, number: NodeId, context: &mut NodeContext)
@@ -73,8 +83,8 @@ fn begin(whole: &ClusterState, number: NodeId, context: &mut NodeContext)
     context.nodes = whole.nodes.len() as u64;
     context.workers = whole.workers.len() as u64;
     context.opened = 0;
-    context.out.entries.items.clear();
-    context.out.envelopes.items.clear();
+    empty(&mut context.out.entries);
+    empty(&mut context.out.envelopes);
 }
 
 /// The node at that place changes places with the one in the event.
@@ -97,8 +107,7 @@ fn exchange_worker(whole: &mut ClusterState, place: usize, here: &mut WorkerCont
     ensures here { here.new ≡ record here.old { worker = here.new.worker } }
     ensures left { whole.new ≡ record whole.old { workers = slice_set whole.old.workers place here.old.worker } }
 {
-    let workers = &mut whole.workers;
-    mem::swap(&mut workers.items[place], &mut here.worker);
+    whole.workers.exchange(place, &mut here.worker);
 }
 
 /// The worker at that place and the node at the other change places with those in the event.
@@ -159,13 +168,13 @@ pub fn enter(
 pub fn blank_context(alloc: Global) -> Result<WorkerContext, AllocError> {
     Ok(WorkerContext {
         me: WorkerId(0),
-        worker: Row::new(alloc, new_worker(alloc, NodeId(0)))?,
+        worker: Boxed::new(alloc, new_worker(alloc, NodeId(0)))?,
         there: NodeContext {
             number: NodeId(0),
             nodes: 0,
             workers: 0,
             opened: 0,
-            node: Row::new(alloc, new_node(alloc, 0))?,
+            node: Boxed::new(alloc, new_node(alloc, 0))?,
             out: no_out(alloc),
         },
     })
@@ -182,7 +191,7 @@ pub fn clear_context(alloc: Global, here: &mut WorkerContext) {
 pub fn log_nothing(context: &mut NodeContext)
     ensures { context.new ≡ record context.old { out = record context.old.out { entries = [] } } }
 {
-    context.out.entries.items.clear();
+    empty(&mut context.out.entries);
 }
 
 /// Where the node of that number stands, counted from 0; none where there never was one.

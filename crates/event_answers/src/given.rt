@@ -56,6 +56,7 @@ fn job_of(alloc: Global, number: u64, run: &Execution) -> Result<GivenJob, Alloc
 }
 
 /// The job of that number, of the worker's attempt.
+#[inline(never)]
 fn job_at(
     alloc: Global,
     whole: &ClusterState,
@@ -64,7 +65,7 @@ fn job_at(
 ) -> Result<Option<GivenJob>, AllocError>
     ensures { IfOk result (λ job. job ≡ job_at number (worker_at whole.now worker)) }
 {
-    let Some(found) = item_at_number(&whole.workers, u64::from(worker.0)) else {
+    let Some(found) = item_at_number(whole.workers.rows(), u64::from(worker.0)) else {
         return Ok(None);
     };
     match &found.run {

@@ -3,8 +3,8 @@
 
 mod answering;
 mod given;
-mod reply;
+mod verdict;
 
 pub use answering::answer;
 pub use given::GivenJob;
-pub use reply::{Answered, Verdict};
+pub use verdict::Verdict;

@@ -1,6 +1,6 @@
 // What an attempt was answered, which contracts see as outcomes.
 
-ghost use Rattle.std.specs.Prelude.{◌≡◌, ◌∷◌, ◌++◌, [], IfOk, OnOk};
+ghost use Rattle.std.specs.Prelude.{◌≡◌, ◌∷◌, ◌++◌, [], IfOk, OnOk, OnErr};
 
 use crate::content::SharedContent;
 use std::alloc::{AllocError, Global};
@@ -41,7 +41,8 @@ impl Answers {
     /// Adds a copy of a content at the end; those before it are copied too where a copy shares them. After an error, which is want of
     /// memory, they are as they were.
     pub fn push(&mut self, alloc: Global, content: &SharedContent) -> Result<(), AllocError>
-        ensures { OnOk result (self.new ≡ self.old ++ content.now ∷ []) }
+        ensures ok { OnOk result (self.new ≡ self.old ++ content.now ∷ []) }
+        ensures err { OnErr result (self.new ≡ self.old) }
     {
         let content = content.inner.copy(alloc)?;
         if let Some(contents) = Arc::get_mut(&mut self.inner) {

@@ -1,6 +1,6 @@
 // What an attempt bore, which contracts see as births.
 
-ghost use Rattle.std.specs.Prelude.{◌≡◌, ◌∷◌, ◌++◌, [], IfOk, OnOk, length};
+ghost use Rattle.std.specs.Prelude.{◌≡◌, ◌∷◌, ◌++◌, [], IfOk, OnOk, OnErr, length};
 
 use crate::shared_birth::SharedBirth;
 use std::alloc::{AllocError, Global};
@@ -48,7 +48,8 @@ impl Births {
 
     /// Adds a birth at the end, which stays shared. After an error, which is want of memory, there are none.
     pub fn push(&mut self, alloc: Global, birth: SharedBirth) -> Result<(), AllocError>
-        ensures { OnOk result (self.new ≡ self.old ++ birth ∷ []) }
+        ensures ok { OnOk result (self.new ≡ self.old ++ birth ∷ []) }
+        ensures err { OnErr result (self.new ≡ []) }
     {
         self.inner.push_shared(alloc, birth.inner)
     }

@@ -1,6 +1,6 @@
 // What an attempt printed, which contracts see as the definitions' values.
 
-ghost use Rattle.std.specs.Prelude.{◌≡◌, ◌∷◌, ◌++◌, [], IfOk, OnOk, length};
+ghost use Rattle.std.specs.Prelude.{◌≡◌, ◌∷◌, ◌++◌, [], IfOk, OnOk, OnErr, length};
 
 use crate::printed::Printed;
 use std::alloc::{AllocError, Global};
@@ -48,7 +48,8 @@ impl Prints {
 
     /// Adds a value at the end. After an error, which is want of memory, there are none.
     pub fn push(&mut self, alloc: Global, value: Printed) -> Result<(), AllocError>
-        ensures { OnOk result (self.new ≡ self.old ++ value ∷ []) }
+        ensures ok { OnOk result (self.new ≡ self.old ++ value ∷ []) }
+        ensures err { OnErr result (self.new ≡ []) }
     {
         self.inner.push(alloc, value.inner)
     }

@@ -5,10 +5,9 @@ use Rattle.script_check.specs.Scripts.{IsWellTyped}
 use Rattle.event_log.specs.Entries.{Entry, Event, In}
 use Rattle.log_entries.specs.declared.refusal.Refusal.{Refusal}
 use Rattle.segment.specs.Jobs.{JobParts, Done, IsBegun, IsTrueOf}
-use Rattle.event_answers.specs.Replies.{come_of, outcome_of, reply_of}
-use Rattle.event_answers.specs.declared.reply.Answered.{Answered}
-use Rattle.event_answers.specs.declared.reply.Verdict.{Verdict}
-use Rattle.event_answers.specs.declared.reply.Verdict.TheVariants.{Taken, Refused}
+use Rattle.event_answers.specs.Replies.{come_of, outcome_of}
+use Rattle.event_answers.specs.declared.verdict.Verdict.{Verdict}
+use Rattle.event_answers.specs.declared.verdict.Verdict.TheVariants.{Taken, Refused}
 use Rattle.protocol.specs.Answers.{Answer, Takes, Refuses, answer, logged, whole_after}
 use Rattle.protocol.specs.Jobs.{CommitInput, Job}
 use Rattle.protocol.specs.Cluster.{ClusterState}
@@ -198,23 +197,23 @@ logged_so e seat (Takes s) = refl
 logged_so e seat (Refuses why) = refl
 
 -- what the whole answered to the event as it takes it
-pub came : (script : Script) (before after : RunState) (e taken : Event) (seat : ℕ) (work : Option Done) (handed : CommitInput) (reply : Answered) →
+pub came : (script : Script) (before after : RunState) (e taken : Event) (seat : ℕ) (work : Option Done) (handed : CommitInput) (entries : List Entry) (outcome : Verdict) →
     taken ≡ e → IsHanded before.whole e work handed → IfSome work (λ d. IsTrueOf script d) →
-    reply ≡ reply_of (answer before.whole taken handed) →
-    after.log ≡ before.log ++ In taken seat ∷ reply.entries → after.whole ≡ whole_after before.whole (answer before.whole taken handed) →
-    after.first_nodes ≡ before.first_nodes → after.is_halted ≡ false → Came script before after e seat work reply.outcome
-came script before after e taken seat work handed reply same is_handed is_true replied log whole nodes goes_on =
+    entries ≡ come_of (answer before.whole taken handed) → outcome ≡ outcome_of (answer before.whole taken handed) →
+    after.log ≡ before.log ++ In taken seat ∷ entries → after.whole ≡ whole_after before.whole (answer before.whole taken handed) →
+    after.first_nodes ≡ before.first_nodes → after.is_halted ≡ false → Came script before after e seat work outcome
+came script before after e taken seat work handed entries outcome same is_handed is_true comes outcome_is log whole nodes goes_on =
     let a : Answer = answer before.whole taken handed in
-    let entries : In taken seat ∷ reply.entries ≡ logged taken seat a = ap (λ (r : Answered). In taken seat ∷ r.entries) replied ∙ logged_so taken seat a in
+    let logged_there : In taken seat ∷ entries ≡ logged taken seat a = ap (λ es. In taken seat ∷ es) comes ∙ logged_so taken seat a in
     record {
       handed = handed;
       is_handed = is_handed;
       is_true = is_true;
-      log = subst (λ x. after.log ≡ before.log ++ logged x seat (answer before.whole x handed)) same (log ∙ ap (λ es. before.log ++ es) entries);
+      log = subst (λ x. after.log ≡ before.log ++ logged x seat (answer before.whole x handed)) same (log ∙ ap (λ es. before.log ++ es) logged_there);
       whole = subst (λ x. after.whole ≡ whole_after before.whole (answer before.whole x handed)) same whole;
       nodes = nodes;
       goes_on = goes_on;
-      outcome_is = subst (λ x. reply.outcome ≡ outcome_of (answer before.whole x handed)) same (ap (λ (r : Answered). r.outcome) replied);
+      outcome_is = subst (λ x. outcome ≡ outcome_of (answer before.whole x handed)) same outcome_is;
     }
 
 pub applies : (script : Script) (before after : RunState) (e : Event) (seat : ℕ) (work : Option Done) (outcome : Verdict) (told : told.Reply) → (h : Came script before after e seat work outcome) →

@@ -43,7 +43,7 @@ fn is_done_on<S: ScriptName>(
     let Some(given) = item_at_number(&whole.jobs, job) else {
         return Ok(false);
     };
-    let Some(worker) = item_at_number(&whole.workers, u64::from(given.worker.0)) else {
+    let Some(worker) = item_at_number(whole.workers.rows(), u64::from(given.worker.0)) else {
         return Ok(false);
     };
     let Some(run) = &worker.run else {
@@ -62,6 +62,7 @@ fn is_done_on<S: ScriptName>(
 }
 
 /// What is handed in with the commit of the job: what was done on another job counts as nothing.
+#[inline(never)]
 fn handed_for<S: ScriptName>(
     alloc: Global,
     whole: &ClusterState,

@@ -5,30 +5,30 @@ ghost use Rattle.meaning.specs.Values.{main_birth};
 ghost use Rattle.protocol.specs.Cluster.{driver, first_whole, main_run, with_driver};
 ghost use Rattle.protocol_core.specs.Opening.{new_nodes};
 
+use boxed_value::Boxed;
 use cluster_steps::new_node;
 use held::{Answers, Births, Prints, SharedBirth};
 use ids::{NodeId, ObjectId, WorkerId};
-use protocol_data::{Attempts, ClusterState, Execution, Node, Objects, Phase, Worker};
-use row::Row;
+use protocol_data::{Attempts, ClusterState, Execution, Node, Objects, Phase, Worker, Workers};
 use sequence::Seq;
 use std::alloc::{AllocError, Global};
 use task_spec::Birth;
 use worker_steps::main_attempt;
 
 /// So many nodes with so many slots each.
-fn first_nodes(alloc: Global, nodes: u8, slots: u32) -> Result<Seq<Row<Node>>, AllocError>
+fn first_nodes(alloc: Global, nodes: u8, slots: u32) -> Result<Seq<Boxed<Node>>, AllocError>
     ensures { IfOk result (λ all. all ≡ new_nodes nodes slots) }
 {
     let mut all = Seq::new(alloc);
     for turn in 0..nodes {
         let _ = turn;
-        all.push(Row::new(alloc, new_node(alloc, slots))?)?;
+        all.push(Boxed::new(alloc, new_node(alloc, slots))?)?;
     }
     Ok(all)
 }
 
 /// The first of these nodes has given the driver a slot.
-fn give_driver_a_slot(alloc: Global, nodes: &mut Seq<Row<Node>>) -> Result<(), AllocError>
+fn give_driver_a_slot(alloc: Global, nodes: &mut Seq<Boxed<Node>>) -> Result<(), AllocError>
     requires { 0 < length nodes.old }
     ensures { OnOk result (nodes.new ≡ with_driver nodes.old) }
 {
@@ -102,8 +102,8 @@ pub fn first_whole(alloc: Global, nodes: u8, slots: u8) -> Result<ClusterState, 
     let slots = u32::from(slots);
     let mut all = first_nodes(alloc, nodes, slots)?;
     give_driver_a_slot(alloc, &mut all)?;
-    let mut workers = Seq::new(alloc);
-    workers.push(Row::new(alloc, driver(alloc)?)?)?;
+    let mut workers = Workers::new(alloc);
+    workers.push(Boxed::new(alloc, driver(alloc)?)?)?;
     Ok(ClusterState {
         slots,
         nodes: all,

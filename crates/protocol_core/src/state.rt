@@ -11,7 +11,7 @@ use crate::opening::first_whole;
 use cluster_steps::{blank_context, clear_context};
 use ids::{AttemptId, NodeId, ObjectId, WorkerId};
 use log_entries::Entry;
-use protocol_data::{ClusterState, WorkerContext};
+use protocol_data::{ClusterState, WorkerContext, Workers};
 use sequence::Seq;
 use std::alloc::{AllocError, Global};
 use std::mem;
@@ -66,7 +66,7 @@ fn add_both(log: &mut Seq<Entry>, own: Entry, more: &mut Seq<Entry>) -> Result<(
 {
     let count = log.len();
     log.push(own)?;
-    if let Err(error) = log.items.append(&mut more.items) {
+    if let Err(error) = log.append(more) {
         cut(log, count);
         return Err(error);
     }
@@ -80,7 +80,7 @@ fn nothing_left(alloc: Global) -> ClusterState
     ClusterState {
         slots: 0,
         nodes: Seq::new(alloc),
-        workers: Seq::new(alloc),
+        workers: Workers::new(alloc),
         made: 0,
         network: Seq::new(alloc),
         delivered: Seq::new(alloc),
@@ -105,19 +105,16 @@ impl State {
         })
     }
 
-    /// Adds an event's own entry and what comes of the event at the log's end, or leaves the log as it is. The list of what came keeps its room, for
-    /// the next event.
-    pub fn add(&mut self, own: Entry, more: Seq<Entry>) -> Result<(), AllocError>
-        ensures ok { OnOk result (self.new.log ≡ self.old.log ++ own ∷ more) }
+    /// Adds an event's own entry, and what comes of the event, which stands in the context, at the log's end; or leaves the log as it is. The list of
+    /// what came keeps its room, for the next event.
+    pub fn add(&mut self, own: Entry) -> Result<(), AllocError>
+        ensures ok { OnOk result (self.new.log ≡ self.old.log ++ own ∷ self.old.here.there.out.entries) }
         ensures err { OnErr result (self.new.log ≡ self.old.log) }
         ensures whole { self.new.whole ≡ self.old.whole }
         ensures nodes { self.new.first_nodes ≡ self.old.first_nodes }
         ensures halted { self.new.is_halted ≡ self.old.is_halted }
     {
-        let mut more = more;
-        add_both(&mut self.log, own, &mut more)?;
-        self.here.there.out.entries = more;
-        Ok(())
+        add_both(&mut self.log, own, &mut self.here.there.out.entries)
     }
 
     /// An event found no memory. What it left of workers, nodes, messages and jobs, which may be half changed, is let go of.

@@ -15,7 +15,7 @@ use crate::cursor::cursor_behind;
 use crate::handed::handed_with;
 use crate::reply::Reply;
 use crate::state::State;
-use event_answers::{Answered, Verdict, answer};
+use event_answers::{Verdict, answer};
 use log_entries::{Entry, Event, Refusal};
 use meaning_laws::law::{legal_logs_read_as_serial, main_begins_the_serial_run};
 use protocol_laws::law::{
@@ -26,6 +26,8 @@ use segment::{Done, Job, ScriptName};
 use std::alloc::{AllocError, Global};
 
 /// An event that found no memory.
+#[cold]
+#[inline(never)]
 fn run_out<S: ScriptName>(alloc: Global, state: &mut State) -> Reply<S>
     ensures { RunsOut (state_of state.old) (state_of state.new) (reply_of result) }
 {
@@ -59,11 +61,16 @@ fn try_step<S: ScriptName>(
     runs_are_good();
     runs_have_the_logs_answers();
     sound_is_legal();
-    let handed = handed_with(alloc, &state.whole, &event, done, is_own)?;
-    let reply = answer(alloc, &mut state.whole, &mut state.here, &event, handed)?;
-    let Answered { entries, outcome } = reply;
-    state.add(Entry::In { event, seat }, entries)?;
-    match outcome {
+    let mut handed = handed_with(alloc, &state.whole, &event, done, is_own)?;
+    let verdict = answer(
+        alloc,
+        &mut state.whole,
+        &mut state.here,
+        &event,
+        &mut handed,
+    )?;
+    state.add(Entry::In { event, seat })?;
+    match verdict {
         Verdict::Refused(refusal) => Ok(Reply::Refused(refusal)),
         Verdict::Taken(None) => Ok(Reply::Ok),
         Verdict::Taken(Some(job)) => Ok(Reply::Job(Job::new(job.inner))),

@@ -1,4 +1,6 @@
 pub mod Copying
+pub mod Going
+pub mod Leasing
 pub mod Noting
 pub mod Queueing
 pub mod Recency

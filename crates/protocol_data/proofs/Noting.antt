@@ -1,5 +1,5 @@
 -- What was surely never asked for isn't among the asks, and an ask that is found is the only one of its key.
-use Rattle.std.proofs.Common.{◌≡◌, ℕ, zero, suc, ◌+◌, ◌<◌, ◌≤◌, ◌∷◌, ◌++◌, [], Bool, true, false, List, Some, None, refl, sym, ap, ◌∙◌, arith, cond, length, length-append, subst}
+use Rattle.std.proofs.Common.{◌≡◌, ℕ, zero, suc, ◌<◌, ◌≤◌, ◌∷◌, ◌++◌, [], Bool, true, false, List, Some, None, refl, sym, ap, ◌∙◌, arith, cond, length, length-append, subst}
 use Rattle.std.proofs.lemmas.Bool.Decides.{nat_tests}
 use Rattle.std.specs.Prelude.{Option, nat_lt, not, ◌||◌, ◌==◌, slice_get, slice_set}
 use Rattle.std.specs.List.{filter, find, list_any}

@@ -1,5 +1,5 @@
 -- A list without its first so many, as one joins its end, or leaves it.
-use Rattle.std.proofs.Common.{◌≡◌, ℕ, zero, suc, ◌+◌, ◌-◌, ◌<◌, ◌≤◌, ◌∷◌, ◌++◌, [], List, refl, sym, ap, ◌∙◌, arith, length, length-append, drop, take}
+use Rattle.std.proofs.Common.{◌≡◌, ℕ, zero, suc, ◌+◌, ◌-◌, ◌≤◌, ◌∷◌, ◌++◌, [], List, refl, ap, ◌∙◌, arith, length, length-append, drop, take}
 use Rattle.std.proofs.Math.Seq.{take-append_seam}
 
 module _ {X : Type 0} where

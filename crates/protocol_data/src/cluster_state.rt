@@ -3,8 +3,8 @@
 use crate::job::JobRecord;
 use crate::message::Envelope;
 use crate::node::{Node, Outbox};
-use crate::tables::Worker;
-use row::Row;
+use crate::workers::Workers;
+use boxed_value::Boxed;
 use sequence::Seq;
 
 /// Nodes and workers by number, the network, and the jobs that were given out.
@@ -13,9 +13,9 @@ pub struct ClusterState {
     /// The slots of each node.
     pub slots: u32,
     /// By number, from 1 on, dead ones too.
-    pub nodes: Seq<Row<Node>>,
+    pub nodes: Seq<Boxed<Node>>,
     /// By number, from 1 on, dead ones too.
-    pub workers: Seq<Row<Worker>>,
+    pub workers: Workers,
     /// How many objects there are, main's own counted.
     pub made: u64,
     /// Every message that was ever sent, by number, from 1 on.

@@ -38,7 +38,7 @@ pub fn job_out(worker: &Worker) -> Option<u64>
 fn is_out_by(whole: &ClusterState, number: WorkerId, job: u64) -> bool
     ensures { result ≡ is_out_by (worker_at whole.now number) job }
 {
-    let Some(worker) = item_at_number(&whole.workers, u64::from(number.0)) else {
+    let Some(worker) = item_at_number(whole.workers.rows(), u64::from(number.0)) else {
         return false;
     };
     match job_in_run(&worker.run) {

@@ -13,7 +13,7 @@ use protocol_data::{ClusterState, Execution, Phase};
 pub fn is_live_worker(whole: &ClusterState, number: WorkerId) -> bool
     ensures { result ≡ is_live_worker (worker_at whole.now number) }
 {
-    let Some(worker) = item_at_number(&whole.workers, u64::from(number.0)) else {
+    let Some(worker) = item_at_number(whole.workers.rows(), u64::from(number.0)) else {
         return false;
     };
     worker.is_live
@@ -23,7 +23,7 @@ pub fn is_live_worker(whole: &ClusterState, number: WorkerId) -> bool
 pub fn is_dead_worker(whole: &ClusterState, number: WorkerId) -> bool
     ensures { result ≡ is_dead_worker (worker_at whole.now number) }
 {
-    let Some(worker) = item_at_number(&whole.workers, u64::from(number.0)) else {
+    let Some(worker) = item_at_number(whole.workers.rows(), u64::from(number.0)) else {
         return false;
     };
     !worker.is_live
@@ -72,7 +72,7 @@ pub fn is_ready_run(run: &Option<Execution>) -> bool
 pub fn is_ready(whole: &ClusterState, number: WorkerId) -> bool
     ensures { result ≡ is_ready whole.now number }
 {
-    let Some(worker) = item_at_number(&whole.workers, u64::from(number.0)) else {
+    let Some(worker) = item_at_number(whole.workers.rows(), u64::from(number.0)) else {
         return false;
     };
     worker.is_live && is_ready_run(&worker.run) && has_slot(whole, number, worker.node)

@@ -77,17 +77,18 @@ impl<T: Drop> Seq<T> {
         ensures ok { OnOk result (self.new ≡ self.old ++ item ∷ []) }
         ensures err { OnErr result (self.new ≡ self.old) }
     {
-        self.items.push(item)?;
+        self.items.reserve(1)?;
+        self.items.push_reserved(item);
         Ok(())
     }
 
-    /// Adds the other's items at the end. On an error the list is as it was.
-    pub fn append(&mut self, other: Self) -> Result<(), AllocError>
-        ensures ok { OnOk result (self.new ≡ self.old ++ other) }
-        ensures err { OnErr result (self.new ≡ self.old) }
+    /// Moves the other's items to the end; what room the other has it keeps. On an error both are as they were.
+    pub fn append(&mut self, other: &mut Self) -> Result<(), AllocError>
+        ensures ok { OnOk result (self.new ≡ self.old ++ other.old) }
+        ensures emptied { OnOk result (other.new ≡ []) }
+        ensures err { OnErr result ((self.new ≡ self.old) × (other.new ≡ other.old)) }
     {
-        let mut more = other.items;
-        self.items.append(&mut more)?;
+        self.items.append(&mut other.items)?;
         Ok(())
     }
 

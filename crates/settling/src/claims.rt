@@ -65,10 +65,18 @@ fn ready_of(
 pub fn first_ready(whole: &ClusterState, but: &Seq<WorkerId>) -> Option<WorkerId>
     ensures { result ≡ first_ready whole.now but.now 1 whole.now.workers }
 {
-    for place in 0..whole.workers.len() {
-        if let Some(worker) = ready_of(whole, whole.workers.get(place), but, place as u64 + 1) {
+    let count = whole.workers.len();
+    let mut place = 0;
+    for turn in 0..count {
+        let _ = turn;
+        let next = whole.workers.next(place);
+        if next >= count {
+            return None;
+        }
+        if let Some(worker) = ready_of(whole, whole.workers.get(next), but, next as u64 + 1) {
             return Some(worker);
         }
+        place = next + 1;
     }
     None
 }

@@ -6,9 +6,8 @@ ghost use Rattle.protocol.specs.Refusals.{job_out};
 ghost use Rattle.protocol.specs.Settling.{first_job};
 
 use ids::WorkerId;
-use protocol_data::Worker;
+use protocol_data::{Worker, Workers};
 use refusals::job_out;
-use row::Row;
 use sequence::Seq;
 
 /// Whether the number is one of these workers.
@@ -35,13 +34,21 @@ fn job_of(worker: &Worker, but: &Seq<WorkerId>, number: u64) -> Option<u64>
 
 /// The job of the least live worker whose job is out, but for these workers.
 #[tactic(auto, using(crate::proofs::Places::no_job_further))]
-pub fn first_job(workers: &Seq<Row<Worker>>, but: &Seq<WorkerId>) -> Option<u64>
+pub fn first_job(workers: &Workers, but: &Seq<WorkerId>) -> Option<u64>
     ensures { result ≡ first_job but.now 1 workers.now }
 {
-    for place in 0..workers.len() {
-        if let Some(job) = job_of(workers.get(place), but, place as u64 + 1) {
+    let count = workers.len();
+    let mut place = 0;
+    for turn in 0..count {
+        let _ = turn;
+        let next = workers.next(place);
+        if next >= count {
+            return None;
+        }
+        if let Some(job) = job_of(workers.get(next), but, next as u64 + 1) {
             return Some(job);
         }
+        place = next + 1;
     }
     None
 }

@@ -223,7 +223,7 @@ fn write_worker_copies(
     requires { place < 4294967295 }
     ensures { OnOk result (string_bytes text.new ≡ string_bytes text.old ++ worker_copies node store.now whole.now place) }
 {
-    let Some(worker) = whole.workers.items.get(place as usize) else {
+    let Some(worker) = whole.workers.rows().items.get(place as usize) else {
         return Ok(());
     };
     write_copies_of(text, node, store, WorkerId(place + 1), worker)

@@ -50,7 +50,7 @@ fn write_on_node(
     requires { place < 4294967295 }
     ensures { OnOk result (string_bytes text.new ≡ string_bytes text.old ++ on_node number whole.now place) }
 {
-    let Some(worker) = whole.workers.items.get(place as usize) else {
+    let Some(worker) = whole.workers.rows().items.get(place as usize) else {
         return Ok(());
     };
     if worker.node.0 as usize != number {

@@ -430,7 +430,7 @@ fn write_worker_objects(
     ensures { IsIndexOf index.now log.now → OnOk result
         (string_bytes text.new ≡ string_bytes text.old ++ worker_objects log.now whole.now place) }
 {
-    let Some(worker) = whole.workers.items.get(place as usize) else {
+    let Some(worker) = whole.workers.rows().items.get(place as usize) else {
         return Ok(());
     };
     write_objects(alloc, text, index, log, WorkerId(place + 1), worker)

@@ -12,7 +12,7 @@ use ids::{AttemptId, NodeId, ObjectId, WorkerId};
 use log_entries::Entry;
 use log_text::write_named;
 use log_words::BirthIndex;
-use protocol_data::{ClusterState, Execution, Fetching, Holding, Lease, Node, Phase, Worker};
+use protocol_data::{ClusterState, Execution, Fetching, Holding, Leases, Node, Phase, Worker};
 use std::alloc::AllocError;
 
 /// The node of that number.
@@ -55,15 +55,10 @@ fn is_idle(whole: &ClusterState, node: NodeId, worker: WorkerId) -> bool
     }
 }
 
-fn lease_in(leases: &[Lease], worker: WorkerId) -> Option<AttemptId>
+fn lease_in(leases: &Leases, worker: WorkerId) -> Option<AttemptId>
     ensures { result ≡ lease_in worker leases.now }
 {
-    for lease in leases {
-        if lease.worker.is(worker) {
-            return Some(lease.attempt);
-        }
-    }
-    None
+    leases.attempt_of(worker)
 }
 
 /// The attempt to which the node gave the worker last.
@@ -72,7 +67,7 @@ fn lease_at(whole: &ClusterState, node: NodeId, worker: WorkerId) -> Option<Atte
 {
     match node_at(whole, node) {
         None => None,
-        Some(found) => lease_in(found.scheduler.leases.as_slice(), worker),
+        Some(found) => lease_in(&found.scheduler.leases, worker),
     }
 }
 
@@ -295,7 +290,7 @@ fn write_worker_at(
     ensures { IsIndexOf index.now log.now → OnOk result
         (string_bytes text.new ≡ string_bytes text.old ++ worker_lines log.now whole.now place) }
 {
-    let Some(found) = whole.workers.items.get(place as usize) else {
+    let Some(found) = whole.workers.rows().items.get(place as usize) else {
         return Ok(());
     };
     write_worker(text, index, log, whole, WorkerId(place + 1), found)

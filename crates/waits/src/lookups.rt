@@ -28,7 +28,7 @@ fn item_at<T>(items: &Seq<T>, number: u64) -> Option<&T>
 pub fn worker_at(whole: &ClusterState, worker: WorkerId) -> Option<&Worker>
     ensures { MatchOption result (worker_at whole.now worker ≡ None) (λ x. worker_at whole.now worker ≡ Some x.now) }
 {
-    match item_at(&whole.workers, u64::from(worker.0)) {
+    match item_at(whole.workers.rows(), u64::from(worker.0)) {
         Some(found) => Some(&**found),
         None => None,
     }

@@ -13,7 +13,7 @@ pub fn items_are_kept_in_order(alloc: Global) -> Checked {
     let mut more = Seq::new(alloc);
     more.push(9)?;
     more.set(0, 8);
-    numbers.append(more)?;
+    numbers.append(&mut more)?;
     let copied = numbers.copy(alloc)?;
     wants(copied.len() == 3 && *copied.get(1) == 7, "the copy's items")?;
     wants(

@@ -1,4 +1,4 @@
-use Rattle.std.proofs.Common.{◌≡◌, ◌++◌, ◌-◌, ◌+◌, [], ◌∷◌, ap, ◌∙◌}
+use Rattle.std.proofs.Common.{◌++◌, ◌-◌, ◌+◌, [], ◌∷◌, ap, ◌∙◌}
 use Rattle.protocol.specs.Sets.{repeated}
 use Rattle.protocol.specs.Tables.{new_worker}
 use Rattle.cluster_steps.proofs.Blanks.{one_more}

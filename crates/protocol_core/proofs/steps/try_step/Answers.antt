@@ -1,7 +1,7 @@
 use Rattle.std.proofs.Common.{sym, ap, ◌∙◌, refl, subst}
 use Rattle.protocol.specs.Answers.{answer}
 use Rattle.segment.specs.Jobs.{IsBegun}
-use Rattle.event_answers.specs.declared.reply.Verdict.TheVariants.{Taken}
+use Rattle.event_answers.specs.declared.verdict.Verdict.TheVariants.{Taken}
 use Rattle.protocol_core.specs.Own.{GivesOwn}
 use Rattle.protocol_core.specs.Steps.{Accepts, GivesJob}
 use Rattle.protocol_core.specs.Steps as told
@@ -26,10 +26,10 @@ returns-in-Refused-clause-kept g c =
     let before = state_of c.args.state.now in
     let after = state_of c.add.new.self in
     let e = c.args.event in
-    let h = came script before after e e c.args.seat c.args.done c.in_ok-handed.handed c.in_ok-reply.reply
-    refl c.in_ok-handed.ensures.handed c.handed_with.ensures.is_true c.in_ok-reply.ensures.reply
-    c.in_ok-add.ensures.ok (c.add.ensures.whole ∙ c.in_ok-reply.ensures.whole) c.add.ensures.nodes (c.add.ensures.halted ∙ c.requires.goes_on) in
-    kept_behind script before after e c.args.seat c.args.done c.in_ok-reply.reply.outcome c.requires.kept c.requires.goes_on c.event_keeps_sound.ensures c.sound_is_legal.ensures h
+    let h = came script before after e e c.args.seat c.args.done c.in_ok-handed.handed c.answer.new.here.there.out.entries c.in_ok-verdict.verdict
+    refl c.in_ok-handed.ensures.handed c.handed_with.ensures.is_true c.in_ok-verdict.ensures.entries c.in_ok-verdict.ensures.outcome
+    c.in_ok-add.ensures.ok (c.add.ensures.whole ∙ c.in_ok-verdict.ensures.whole) c.add.ensures.nodes (c.add.ensures.halted ∙ c.requires.goes_on) in
+    kept_behind script before after e c.args.seat c.args.done c.in_ok-verdict.verdict c.requires.kept c.requires.goes_on c.event_keeps_sound.ensures c.sound_is_legal.ensures h
 
 pub returns-in-Taken-None-clause-kept : goal.returns-in-Taken-None-clause-kept
 returns-in-Taken-None-clause-kept g c =
@@ -37,10 +37,10 @@ returns-in-Taken-None-clause-kept g c =
     let before = state_of c.args.state.now in
     let after = state_of c.add.new.self in
     let e = c.args.event in
-    let h = came script before after e e c.args.seat c.args.done c.in_ok-handed.handed c.in_ok-reply.reply
-    refl c.in_ok-handed.ensures.handed c.handed_with.ensures.is_true c.in_ok-reply.ensures.reply
-    c.in_ok-add.ensures.ok (c.add.ensures.whole ∙ c.in_ok-reply.ensures.whole) c.add.ensures.nodes (c.add.ensures.halted ∙ c.requires.goes_on) in
-    kept_behind script before after e c.args.seat c.args.done c.in_ok-reply.reply.outcome c.requires.kept c.requires.goes_on c.event_keeps_sound.ensures c.sound_is_legal.ensures h
+    let h = came script before after e e c.args.seat c.args.done c.in_ok-handed.handed c.answer.new.here.there.out.entries c.in_ok-verdict.verdict
+    refl c.in_ok-handed.ensures.handed c.handed_with.ensures.is_true c.in_ok-verdict.ensures.entries c.in_ok-verdict.ensures.outcome
+    c.in_ok-add.ensures.ok (c.add.ensures.whole ∙ c.in_ok-verdict.ensures.whole) c.add.ensures.nodes (c.add.ensures.halted ∙ c.requires.goes_on) in
+    kept_behind script before after e c.args.seat c.args.done c.in_ok-verdict.verdict c.requires.kept c.requires.goes_on c.event_keeps_sound.ensures c.sound_is_legal.ensures h
 
 pub returns-in-Taken-Some-clause-kept : goal.returns-in-Taken-Some-clause-kept
 returns-in-Taken-Some-clause-kept g c =
@@ -48,10 +48,10 @@ returns-in-Taken-Some-clause-kept g c =
     let before = state_of c.args.state.now in
     let after = state_of c.add.new.self in
     let e = c.args.event in
-    let h = came script before after e e c.args.seat c.args.done c.in_ok-handed.handed c.in_ok-reply.reply
-    refl c.in_ok-handed.ensures.handed c.handed_with.ensures.is_true c.in_ok-reply.ensures.reply
-    c.in_ok-add.ensures.ok (c.add.ensures.whole ∙ c.in_ok-reply.ensures.whole) c.add.ensures.nodes (c.add.ensures.halted ∙ c.requires.goes_on) in
-    kept_behind script before after e c.args.seat c.args.done c.in_ok-reply.reply.outcome c.requires.kept c.requires.goes_on c.event_keeps_sound.ensures c.sound_is_legal.ensures h
+    let h = came script before after e e c.args.seat c.args.done c.in_ok-handed.handed c.answer.new.here.there.out.entries c.in_ok-verdict.verdict
+    refl c.in_ok-handed.ensures.handed c.handed_with.ensures.is_true c.in_ok-verdict.ensures.entries c.in_ok-verdict.ensures.outcome
+    c.in_ok-add.ensures.ok (c.add.ensures.whole ∙ c.in_ok-verdict.ensures.whole) c.add.ensures.nodes (c.add.ensures.halted ∙ c.requires.goes_on) in
+    kept_behind script before after e c.args.seat c.args.done c.in_ok-verdict.verdict c.requires.kept c.requires.goes_on c.event_keeps_sound.ensures c.sound_is_legal.ensures h
 
 -- the parts that are given out make a job of this script
 pub new-requires : goal.new-requires
@@ -60,12 +60,12 @@ new-requires g c =
     let before = state_of c.args.state.now in
     let after = state_of c.add.new.self in
     let e = c.args.event in
-    let h = came script before after e e c.args.seat c.args.done c.in_ok-handed.handed c.in_ok-reply.reply
-    refl c.in_ok-handed.ensures.handed c.handed_with.ensures.is_true c.in_ok-reply.ensures.reply
-    c.in_ok-add.ensures.ok (c.add.ensures.whole ∙ c.in_ok-reply.ensures.whole) c.add.ensures.nodes (c.add.ensures.halted ∙ c.requires.goes_on) in
+    let h = came script before after e e c.args.seat c.args.done c.in_ok-handed.handed c.answer.new.here.there.out.entries c.in_ok-verdict.verdict
+    refl c.in_ok-handed.ensures.handed c.handed_with.ensures.is_true c.in_ok-verdict.ensures.entries c.in_ok-verdict.ensures.outcome
+    c.in_ok-add.ensures.ok (c.add.ensures.whole ∙ c.in_ok-verdict.ensures.whole) c.add.ensures.nodes (c.add.ensures.halted ∙ c.requires.goes_on) in
     let job = c.in-Taken-Some.job in
     let gives = c.in-Taken-Some.is ∙ ap (λ x. Taken x) c.in-Taken-Some.field-0-is in
-    let begun = begun_behind script before after e c.args.seat c.args.done c.in_ok-reply.reply.outcome c.requires.kept c.requires.goes_on c.claims_give_good_jobs.ensures h job gives in
+    let begun = begun_behind script before after e c.args.seat c.args.done c.in_ok-verdict.verdict c.requires.kept c.requires.goes_on c.claims_give_good_jobs.ensures h job gives in
     subst (λ j. IsBegun script j) (sym c.job.view_is) begun
 
 -- that job is what the event comes to
@@ -75,13 +75,13 @@ returns-in-Taken-Some-clause-applied g c =
     let before = state_of c.args.state.now in
     let after = state_of c.add.new.self in
     let e = c.args.event in
-    let h = came script before after e e c.args.seat c.args.done c.in_ok-handed.handed c.in_ok-reply.reply
-    refl c.in_ok-handed.ensures.handed c.handed_with.ensures.is_true c.in_ok-reply.ensures.reply
-    c.in_ok-add.ensures.ok (c.add.ensures.whole ∙ c.in_ok-reply.ensures.whole) c.add.ensures.nodes (c.add.ensures.halted ∙ c.requires.goes_on) in
+    let h = came script before after e e c.args.seat c.args.done c.in_ok-handed.handed c.answer.new.here.there.out.entries c.in_ok-verdict.verdict
+    refl c.in_ok-handed.ensures.handed c.handed_with.ensures.is_true c.in_ok-verdict.ensures.entries c.in_ok-verdict.ensures.outcome
+    c.in_ok-add.ensures.ok (c.add.ensures.whole ∙ c.in_ok-verdict.ensures.whole) c.add.ensures.nodes (c.add.ensures.halted ∙ c.requires.goes_on) in
     let job = c.in-Taken-Some.job in
     let gives = c.in-Taken-Some.is ∙ ap (λ x. Taken x) c.in-Taken-Some.field-0-is in
     let tells = tells_job _ job (sym h.outcome_is ∙ gives) in
-    applies script before after e c.args.seat c.args.done c.in_ok-reply.reply.outcome (GivesJob c.new.result) h (subst (λ j. told.Tells (answer before.whole e h.handed) (GivesJob j)) (sym (c.new.ensures ∙ c.job.view_is)) tells)
+    applies script before after e c.args.seat c.args.done c.in_ok-verdict.verdict (GivesJob c.new.result) h (subst (λ j. told.Tells (answer before.whole e h.handed) (GivesJob j)) (sym (c.new.ensures ∙ c.job.view_is)) tells)
 
 -- and its answers begin what the log has of answers to its attempt
 pub returns-in-Taken-Some-clause-own : goal.returns-in-Taken-Some-clause-own
@@ -90,11 +90,11 @@ returns-in-Taken-Some-clause-own g c =
     let before = state_of c.args.state.now in
     let after = state_of c.add.new.self in
     let e = c.args.event in
-    let h = came script before after e e c.args.seat c.args.done c.in_ok-handed.handed c.in_ok-reply.reply
-    refl c.in_ok-handed.ensures.handed c.handed_with.ensures.is_true c.in_ok-reply.ensures.reply
-    c.in_ok-add.ensures.ok (c.add.ensures.whole ∙ c.in_ok-reply.ensures.whole) c.add.ensures.nodes (c.add.ensures.halted ∙ c.requires.goes_on) in
+    let h = came script before after e e c.args.seat c.args.done c.in_ok-handed.handed c.answer.new.here.there.out.entries c.in_ok-verdict.verdict
+    refl c.in_ok-handed.ensures.handed c.handed_with.ensures.is_true c.in_ok-verdict.ensures.entries c.in_ok-verdict.ensures.outcome
+    c.in_ok-add.ensures.ok (c.add.ensures.whole ∙ c.in_ok-verdict.ensures.whole) c.add.ensures.nodes (c.add.ensures.halted ∙ c.requires.goes_on) in
     let job = c.in-Taken-Some.job in
     let gives = c.in-Taken-Some.is ∙ ap (λ x. Taken x) c.in-Taken-Some.field-0-is in
-    let own = own_behind script before after e c.args.seat c.args.done c.in_ok-reply.reply.outcome c.requires.kept c.requires.goes_on
+    let own = own_behind script before after e c.args.seat c.args.done c.in_ok-verdict.verdict c.requires.kept c.requires.goes_on
     c.claims_give_jobs_of_the_log.ensures c.jobs_stay_of_the_log.ensures h job gives in
     subst (λ j. GivesOwn after.log (GivesJob j)) (sym (c.new.ensures ∙ c.job.view_is)) own

@@ -1,4 +1,4 @@
-use Rattle.std.proofs.Common.{ap, sym, drop, ◌∙◌}
+use Rattle.std.proofs.Common.{ap, drop, ◌∙◌}
 use Rattle.protocol_data.proofs.Queueing.{without_last}
 use Rattle.protocol_data.proofs.queue.Queue.remove_last.Goals as goal
 

@@ -2,7 +2,7 @@
 
 ghost use Rattle.std.specs.Prelude.{◌≡◌, IfOk};
 ghost use Rattle.std.specs.Borrow.{Lends, sem};
-ghost use Rattle.row.specs.contracts.row.Row.{the_row};
+ghost use Rattle.boxed_value.specs.contracts.boxed.Boxed.{the_row};
 
 use std::alloc::{AllocError, Global};
 use std::marker::Model;
@@ -10,11 +10,11 @@ use std::ops::{Deref, DerefMut};
 
 /// A value behind a pointer: contracts see the value, and its fields are read and set through it.
 #[derive(Drop)]
-pub struct Row<T> {
+pub struct Boxed<T> {
     inner: Box<T>,
 }
 
-impl<T> Model for Row<T> {
+impl<T> Model for Boxed<T> {
     ghost use Rattle.std.specs.Prelude.{◌≡◌};
 
     ghost Value = { T };
@@ -22,18 +22,18 @@ impl<T> Model for Row<T> {
     ghost view = { λ r. r.inner.value };
 }
 
-impl<T: Drop> Row<T> {
+impl<T: Drop> Boxed<T> {
     /// The value, behind a pointer. On an error there was no memory for it, and it is gone.
-    pub fn new(alloc: Global, value: T) -> Result<Row<T>, AllocError>
+    pub fn new(alloc: Global, value: T) -> Result<Boxed<T>, AllocError>
         ensures { IfOk result (λ r. r ≡ value) }
     {
-        Ok(Row {
+        Ok(Boxed {
             inner: Box::new(alloc, value)?,
         })
     }
 }
 
-impl<T> Deref for Row<T> {
+impl<T> Deref for Boxed<T> {
     type Target = T;
 
     ghost deref_gives = { λ r x. x ≡ r };
@@ -45,7 +45,7 @@ impl<T> Deref for Row<T> {
     }
 }
 
-impl<T> DerefMut for Row<T> {
+impl<T> DerefMut for Boxed<T> {
     ghost deref_mut_gives = { λ r x. x ≡ r };
 
     fn deref_mut(&mut self) -> &mut T

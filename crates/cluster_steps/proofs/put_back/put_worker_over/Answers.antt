@@ -1,0 +1,8 @@
+use Rattle.std.proofs.Common.{◌∙◌, sym}
+use Rattle.number_lists.proofs.Places.{set_over}
+use Rattle.cluster_steps.proofs.put_back.put_worker_over.Goals as goal
+
+pub returns : goal.returns
+returns c =
+    c.settle.ensures ∙ c.exchange.ensures.put
+    ∙ sym (set_over c.args.workers.now c.args.place c.args.number c.args.worker.now c.requires.place_in c.requires.number)

@@ -1,0 +1,27 @@
+-- Which workers may have something to claim or to commit.
+use Rattle.std.specs.Prelude.{Bool, List, None, Option, Some, false, slice_get, true, ℕ, ◌&&◌, ◌<◌, ◌≡◌, ◌≤◌}
+use Rattle.protocol_data.specs.declared.tables.Execution.{Execution}
+use Rattle.protocol_data.specs.declared.tables.Phase.{Phase}
+use Rattle.protocol_data.specs.declared.tables.Phase.TheVariants.{HasEnded, HasFaulted, Out, Ready, Waits}
+use Rattle.protocol_data.specs.declared.tables.Worker.{Worker}
+
+-- the attempt may be given out, or its job is out
+abbrev pub is_going : Phase → Bool
+is_going Ready = true
+is_going (Out j) = true
+is_going (Waits o f) = false
+is_going (HasEnded cs) = false
+is_going (HasFaulted f) = false
+
+-- there is an attempt, and it may be given out, or its job is out
+abbrev pub has_going : Option Execution → Bool
+has_going None = false
+has_going (Some run) = is_going run.phase
+
+-- the worker lives, and may have something to claim or to commit
+abbrev pub may_go : Worker → Bool
+may_go x = x.is_live && has_going x.run
+
+-- no worker from the one place to before the other has anything to claim or to commit
+abbrev pub AreAtRest : List Worker → ℕ → ℕ → Type 0
+AreAtRest xs from to = (i : ℕ) (x : Worker) → from ≤ i → i < to → slice_get xs i ≡ Some x → may_go x ≡ false

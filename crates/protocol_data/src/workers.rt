@@ -1,0 +1,185 @@
+// The workers of a run, with an index of those that may have something to claim or to commit.
+
+ghost use Rattle.std.specs.Prelude.{◌≡◌, ◌++◌, ◌∷◌, [], ◌<◌, ◌≤◌, OnErr, OnOk, Some, false, length, slice_get, slice_set, true};
+ghost use Rattle.protocol_data.specs.Going.{AreAtRest, has_going, is_going, may_go};
+ghost use Rattle.protocol_data.specs.declared.tables.Worker.{Worker};
+
+use crate::tables::{Execution, Phase, Worker};
+use boxed_value::Boxed;
+use flags::Flags;
+use sequence::Seq;
+use std::alloc::{AllocError, Global};
+use std::marker::Model;
+use std::mem;
+
+/// Whether the attempt may be given out, or its job is out.
+fn is_going(phase: &Phase) -> bool
+    ensures { result ≡ is_going phase.now }
+{
+    match phase {
+        Phase::Ready => true,
+        Phase::Out(_) => true,
+        Phase::Waits(..) => false,
+        Phase::HasEnded(_) => false,
+        Phase::HasFaulted(_) => false,
+    }
+}
+
+fn has_going(run: &Option<Execution>) -> bool
+    ensures { result ≡ has_going run.now }
+{
+    match run {
+        None => false,
+        Some(run) => is_going(&run.phase),
+    }
+}
+
+/// Whether the worker lives and may have something to claim or to commit.
+fn may_go(worker: &Worker) -> bool
+    ensures { result ≡ may_go worker.now }
+{
+    worker.is_live && has_going(&worker.run)
+}
+
+/// The worker changes places with the one that stands at that place.
+fn exchange(rows: &mut Seq<Boxed<Worker>>, place: usize, worker: &mut Boxed<Worker>)
+    requires { place < length rows.old }
+    ensures taken { slice_get rows.old place ≡ Some worker.new }
+    ensures put { rows.new ≡ slice_set rows.old place worker.old }
+{
+    mem::swap(&mut rows.items[place], worker);
+}
+
+/// The worker at the place doesn't live any more.
+fn kill(rows: &mut Seq<Boxed<Worker>>, place: usize)
+    requires { place < length rows.old }
+    ensures { (x : Worker) → slice_get rows.old place ≡ Some x → rows.new ≡ slice_set rows.old place (record x { is_live = false }) }
+{
+    let worker = &mut rows.items[place];
+    worker.is_live = false;
+}
+
+/// Workers by number, from 1 on, dead ones too, which contracts see as the list of them.
+///
+/// Beside them stands which of them may have something to claim or to commit, so that the choice of the next event looks at no other.
+#[derive(Drop)]
+pub struct Workers {
+    rows: Seq<Boxed<Worker>>,
+    going: Flags,
+}
+
+impl Model for Workers {
+    ghost use Rattle.std.specs.Prelude.{◌≡◌, List, map};
+    ghost use Rattle.std.specs.Coded.{codes};
+    ghost use Rattle.ids.specs.Codes.{id_code};
+    ghost use Rattle.log_entries.specs.of_held.Codes.{value_code, outcome_code, birth_code};
+    ghost use Rattle.ids.specs.Codes.{attempt_code};
+    ghost use Rattle.log_entries.specs.of_values.FaultCodes.{fault_code};
+    ghost use Rattle.protocol_data.specs.declared.tables.Worker.{Worker};
+    ghost use Rattle.protocol_data.specs.Going.{may_go};
+
+    ghost Value = { List Worker };
+
+    ghost coded = { Prim.hlevel (codes, value_code, outcome_code, birth_code, id_code, attempt_code, fault_code) };
+
+    ghost view = { λ w. w.rows };
+
+    ghost invariant = { λ w. w.going ≡ map may_go w.rows };
+}
+
+impl Workers {
+    /// None yet.
+    pub fn new(alloc: Global) -> Workers
+        ensures { result ≡ [] }
+    {
+        Workers {
+            rows: Seq::new(alloc),
+            going: Flags::new(alloc),
+        }
+    }
+
+    /// How many workers there are, dead ones too.
+    pub fn len(&self) -> usize
+        ensures { result ≡ length self.now }
+    {
+        self.rows.len()
+    }
+
+    /// The worker at the place, counted from 0.
+    pub fn get(&self, place: usize) -> &Boxed<Worker>
+        requires { place < length self.now }
+        ensures { slice_get self.now place ≡ Some result.now }
+    {
+        self.rows.get(place)
+    }
+
+    /// The workers, in order.
+    pub fn rows(&self) -> &Seq<Boxed<Worker>>
+        ensures { result.now ≡ self.now }
+    {
+        &self.rows
+    }
+
+    /// The workers, in order, with no index.
+    pub fn into_rows(self) -> Seq<Boxed<Worker>>
+        ensures { result ≡ self }
+    {
+        self.rows
+    }
+
+    /// The first place from that one on whose worker may have something to claim or to commit; where there is none, how many workers there are, or that
+    /// place if it is more.
+    pub fn next(&self, from: usize) -> usize
+        ensures on { from ≤ result }
+        ensures rest { AreAtRest self.now from result }
+        ensures goes { (x : Worker) → slice_get self.now result ≡ Some x → may_go x ≡ true }
+    {
+        self.going.next(from)
+    }
+
+    /// Adds a worker with the next number. On an error, which is want of memory, the workers are as they were.
+    pub fn push(&mut self, worker: Boxed<Worker>) -> Result<(), AllocError>
+        ensures ok { OnOk result (self.new ≡ self.old ++ worker ∷ []) }
+        ensures err { OnErr result (self.new ≡ self.old) }
+    {
+        self.rows.items.reserve(1)?;
+        self.going.push(may_go(&worker))?;
+        self.rows.items.push_reserved(worker);
+        Ok(())
+    }
+
+    /// The worker changes places with the one that stands at that place.
+    pub fn exchange(&mut self, place: usize, worker: &mut Boxed<Worker>)
+        requires { place < length self.old }
+        ensures taken { slice_get self.old place ≡ Some worker.new }
+        ensures put { self.new ≡ slice_set self.old place worker.old }
+    {
+        self.going.set(place, may_go(worker));
+        exchange(&mut self.rows, place, worker);
+    }
+
+    /// The worker at the place is looked at, so that where it has nothing to claim or to commit the next search may pass over it.
+    pub fn settle(&mut self, place: usize)
+        ensures { self.new ≡ self.old }
+    {
+        self.going.sum_up(place);
+    }
+
+    /// Puts a worker in the place of the one that stands there.
+    pub fn set(&mut self, place: usize, worker: Boxed<Worker>)
+        requires { place < length self.old }
+        ensures { self.new ≡ slice_set self.old place worker }
+    {
+        self.going.set(place, may_go(&worker));
+        self.rows.set(place, worker);
+    }
+
+    /// The worker at the place doesn't live any more.
+    pub fn kill(&mut self, place: usize)
+        requires { place < length self.old }
+        ensures { (x : Worker) → slice_get self.old place ≡ Some x → self.new ≡ slice_set self.old place (record x { is_live = false }) }
+    {
+        self.going.set(place, false);
+        kill(&mut self.rows, place);
+    }
+}

@@ -1,6 +1,7 @@
 -- Where an attempt stopped, as the replay has it, and what comes of converting that.
-use Rattle.std.proofs.Common.{◌≡◌, ℕ, suc, ◌+◌, List, [], ◌∷◌, ◌++◌, map, Result, Ok, Err, IfOk, IfErr, IfSome, Option, Some, None, refl, sym, ap, ◌∙◌, subst, arith}
+use Rattle.std.proofs.Common.{◌≡◌, ℕ, suc, ◌+◌, List, [], ◌∷◌, ◌++◌, map, Result, Ok, Err, IfOk, IfErr, IfSome, Option, Some, None, Box, refl, sym, ap, ◌∙◌, subst, arith}
 use Rattle.std.specs.Prelude.{IsErrAnd}
+use Rattle.std.specs.declared.alloc.Global.{Global}
 use Rattle.meaning.specs.Values as meant
 use Rattle.meaning.specs.Values.{Name, Id, Argument, Outcome, Task}
 use Rattle.meaning.specs.Syntax.{Script}
@@ -86,7 +87,7 @@ module _ (n : ℕ) (p : Piece) (a : Attempt) (of : IsPieceOf n p a) where
   pub kept_so : (script : Script) (b c : meant.Birth) (base : Id) (past : Past) (given answers : List Outcome) → c ≡ b → given ≡ answers →
       p.frame ≡ a.frame → KeepsFrame script b base past given a → Keeps script c base past answers p
   kept_so script b c base past given answers is same frame keeps =
-      let P : meant.Birth → Past → Option Frame → Type 0 = λ x y f. IfSome f (IsWaiting script x base y) in
+      let P : meant.Birth → Past → Option (Box Frame Global) → Type 0 = λ x y f. IfSome f (λ b. IsWaiting script x base y b.value) in
       subst (P c (past_with past answers p)) (sym frame)
       (subst (λ y. P c y a.frame) past_is (subst (λ x. P x (past_behind past given a) a.frame) (sym is) keeps))
     where

@@ -69,4 +69,4 @@ past_with past answers p = record {
 
 -- the piece's frame, if it has one, is where the task waits that was answered and did all this
 abbrev pub Keeps : Script → meant.Birth → Id → Past → List Outcome → Piece → Type 0
-Keeps script spec base past answers p = IfSome p.frame (IsWaiting script spec base (past_with past answers p))
+Keeps script spec base past answers p = IfSome p.frame (λ f. IsWaiting script spec base (past_with past answers p) f.value)

@@ -189,14 +189,14 @@ fn to_arguments(
     Ok(copies)
 }
 
-/// What makes objects, as a task has it.
-fn to_birth(alloc: Global, made: &Made) -> Result<Birth, ConversionError>
-    ensures value { IfOk result (λ b. birth_of b ≡ made_of made.now) }
+/// What makes objects, as a task has it. A task's name is moved.
+fn to_birth(alloc: Global, made: Made) -> Result<Birth, ConversionError>
+    ensures value { IfOk result (λ b. birth_of b ≡ made_of made) }
     ensures kind { IfErr result (λ e. e ≡ ConversionError.Broken → ⊥) }
-    ensures plain { IfErr result (λ e. e ≡ ConversionError.HasOutcome → IsTaskBirth (made_of made.now) → ⊥) }
+    ensures plain { IfErr result (λ e. e ≡ ConversionError.HasOutcome → IsTaskBirth (made_of made) → ⊥) }
 {
     match made {
-        Made::Put(value) => Ok(Birth::Put(to_value(alloc, value)?)),
+        Made::Put(value) => Ok(Birth::Put(to_value(alloc, &value)?)),
         Made::Task {
             function,
             arguments,
@@ -204,24 +204,23 @@ fn to_birth(alloc: Global, made: &Made) -> Result<Birth, ConversionError>
             retries,
             others,
         } => {
-            let function = function.clone()?;
-            let arguments = to_arguments(alloc, arguments)?;
+            let arguments = to_arguments(alloc, &arguments)?;
             Ok(Birth::Task {
                 function,
                 arguments,
-                depth: *depth,
-                retries: *retries,
-                others: *others,
+                depth,
+                retries,
+                others,
             })
         }
     }
 }
 
 /// What was borne, as tasks have it.
-pub(crate) fn to_births(alloc: Global, births: &[Made]) -> Result<Vec<Birth>, ConversionError>
-    ensures value { IfOk result (λ bs. map birth_of bs.items ≡ map made_of births.now) }
+pub(crate) fn to_births(alloc: Global, births: Vec<Made>) -> Result<Vec<Birth>, ConversionError>
+    ensures value { IfOk result (λ bs. map birth_of bs.items ≡ map made_of births.items) }
     ensures kind { IfErr result (λ e. e ≡ ConversionError.Broken → ⊥) }
-    ensures plain { IfErr result (λ e. e ≡ ConversionError.HasOutcome → AreTaskBirths (map made_of births.now) → ⊥) }
+    ensures plain { IfErr result (λ e. e ≡ ConversionError.HasOutcome → AreTaskBirths (map made_of births.items) → ⊥) }
 {
     let mut copies = Vec::new(alloc);
     for made in births {

@@ -50,7 +50,7 @@ pub struct Piece {
     /// Where it stops: at a get that has no answer, or at the task's end.
     pub stop: PieceStop,
     /// Where it stops at a get, the frame from which it goes on with an answer.
-    pub frame: Option<Frame>,
+    pub frame: Option<Box<Frame>>,
     /// How many steps it began since the last of its answers, or since its start where it had none: statements, and expressions but for
     /// parentheses. At 2^64 - 1 the count stays.
     pub steps: u64,
@@ -154,40 +154,52 @@ fn to_stop(alloc: Global, halt: &Halt, count: usize) -> Result<PieceStop, Conver
     }
 }
 
-/// What an attempt did up to where it stopped, as tasks have it, without its frame.
-fn to_piece(alloc: Global, attempt: &Attempt, count: usize) -> Result<Piece, ConversionError>
-    requires stops { is_stop attempt.now.halt ≡ true }
+/// What an attempt did up to where it stopped, as tasks have it, and its frame.
+fn to_piece(alloc: Global, attempt: Attempt, count: usize) -> Result<Box<Piece>, ConversionError>
+    requires stops { is_stop attempt.halt ≡ true }
     requires some { 1 ≤ count }
-    ensures value { IfOk result (λ p. IsPieceOf count p attempt.now) }
-    ensures broken { IfErr result (λ e. e ≡ ConversionError.Broken → (past : Past) (q : runs.Piece) → Stands count past attempt.now q →
+    ensures value { IfOk result (λ p. IsPieceOf count p.value attempt) }
+    ensures frame { IfOk result (λ p. p.value.frame ≡ attempt.frame) }
+    ensures steps { IfOk result (λ p. p.value.steps ≡ attempt.steps) }
+    ensures broken { IfErr result (λ e. e ≡ ConversionError.Broken → (past : Past) (q : runs.Piece) → Stands count past attempt q →
         IsBrokenStop q.stop) }
-    ensures plain { IfErr result (λ e. e ≡ ConversionError.HasOutcome → (past : Past) (q : runs.Piece) → Stands count past attempt.now q →
+    ensures plain { IfErr result (λ e. e ≡ ConversionError.HasOutcome → (past : Past) (q : runs.Piece) → Stands count past attempt q →
         IsTaskPiece q → ⊥) }
 {
-    let stop = to_stop(alloc, &attempt.halt, count)?;
-    let births = to_births(alloc, &attempt.births)?;
-    let prints = to_values(alloc, &attempt.prints)?;
-    Ok(Piece {
+    let Attempt {
         births,
         prints,
-        stop,
-        frame: None,
-        steps: attempt.steps,
-    })
+        halt,
+        frame,
+        steps,
+    } = attempt;
+    let stop = to_stop(alloc, &halt, count)?;
+    let births = to_births(alloc, births)?;
+    let prints = to_values(alloc, &prints)?;
+    Ok(Box::new(
+        alloc,
+        Piece {
+            births,
+            prints,
+            stop,
+            frame,
+            steps,
+        },
+    )?)
 }
 
 /// What an attempt did up to where it stopped, as tasks have it, and its frame.
-fn finish(alloc: Global, attempt: Attempt, count: usize) -> Result<Piece, PieceError>
+fn finish(alloc: Global, attempt: Attempt, count: usize) -> Result<Box<Piece>, PieceError>
     requires stops { is_stop attempt.halt ≡ true }
     requires some { 1 ≤ count }
-    ensures value { IfOk result (λ p. IsPieceOf count p attempt) }
-    ensures frame { IfOk result (λ p. p.frame ≡ attempt.frame) }
-    ensures steps { IfOk result (λ p. p.steps ≡ attempt.steps) }
+    ensures value { IfOk result (λ p. IsPieceOf count p.value attempt) }
+    ensures frame { IfOk result (λ p. p.value.frame ≡ attempt.frame) }
+    ensures steps { IfOk result (λ p. p.value.steps ≡ attempt.steps) }
     ensures broken { IfErr result (λ e. e ≡ PieceError.Broken → (past : Past) (q : runs.Piece) → Stands count past attempt q → IsTaskPiece q →
         IsBrokenStop q.stop) }
 {
-    match to_piece(alloc, &attempt, count) {
-        Ok(piece) => Ok(with_frame(piece, attempt)),
+    match to_piece(alloc, attempt, count) {
+        Ok(piece) => Ok(piece),
         Err(ConversionError::Broken) => Err(PieceError::Broken),
         // No task has such a value.
         Err(ConversionError::HasOutcome) => Err(PieceError::Broken),
@@ -195,53 +207,26 @@ fn finish(alloc: Global, attempt: Attempt, count: usize) -> Result<Piece, PieceE
     }
 }
 
-/// The piece, with frame and steps of the attempt that it is made of.
-fn with_frame(piece: Piece, attempt: Attempt) -> Piece
-    ensures births { result.births.items ≡ piece.births.items }
-    ensures prints { result.prints.items ≡ piece.prints.items }
-    ensures stop { result.stop ≡ piece.stop }
-    ensures frame { result.frame ≡ attempt.frame }
-    ensures steps { result.steps ≡ attempt.steps }
-{
-    let Attempt {
-        births: _,
-        prints: _,
-        halt: _,
-        frame,
-        steps,
-    } = attempt;
-    let Piece {
-        births,
-        prints,
-        stop,
-        frame: _,
-        steps: _,
-    } = piece;
-    Piece {
-        births,
-        prints,
-        stop,
-        frame,
-        steps,
-    }
-}
-
 /// A put's piece: it ends with its value at once.
-fn put_piece(alloc: Global, value: &RunValue) -> Result<Piece, AllocError>
-    ensures value { IfOk result (λ p. piece_of p ≡ stopped (Over (Val (value_of value.now) ∷ []))) }
-    ensures frame { IfOk result (λ p. p.frame ≡ None) }
-    ensures steps { IfOk result (λ p. p.steps ≡ 0) }
+fn put_piece(alloc: Global, value: &RunValue) -> Result<Box<Piece>, PieceError>
+    ensures value { IfOk result (λ p. piece_of p.value ≡ stopped (Over (Val (value_of value.now) ∷ []))) }
+    ensures frame { IfOk result (λ p. p.value.frame ≡ None) }
+    ensures steps { IfOk result (λ p. p.value.steps ≡ 0) }
+    ensures only { IfErr result (λ e. e ≡ PieceError.NoMemory) }
 {
     let value = value.copy(alloc)?;
     let mut contents = Vec::new(alloc);
     contents.push(Content::Value(value))?;
-    Ok(Piece {
-        births: Vec::new(alloc),
-        prints: Vec::new(alloc),
-        stop: PieceStop::Ends(contents),
-        frame: None,
-        steps: 0,
-    })
+    Ok(Box::new(
+        alloc,
+        Piece {
+            births: Vec::new(alloc),
+            prints: Vec::new(alloc),
+            stop: PieceStop::Ends(contents),
+            frame: None,
+            steps: 0,
+        },
+    )?)
 }
 
 /// Runs a task from its start on the answers that it has so far, its births taking ids from `base` on.
@@ -251,19 +236,19 @@ pub fn run_piece(
     spec: &Birth,
     base: ObjectId,
     answers: &[Content],
-) -> Result<Piece, PieceError>
+) -> Result<Box<Piece>, PieceError>
     // What is given is the task's replay.
-    ensures replayed { IfOk result (λ p. piece_of p ≡ replay (script_of script.now) (birth_of spec.now) base (map content_of answers.now)) }
+    ensures replayed { IfOk result (λ p. piece_of p.value ≡ replay (script_of script.now) (birth_of spec.now) base (map content_of answers.now)) }
     // It is broken only where the replay is.
     ensures broken { IfErr result (λ e. e ≡ PieceError.Broken →
         IsBrokenStop (replay (script_of script.now) (birth_of spec.now) base (map content_of answers.now)).stop) }
     // Its frame, if it has one, is where the task waits that was so answered.
-    ensures keeps { IfOk result (λ p. Keeps (script_of script.now) (birth_of spec.now) base no_past (map content_of answers.now) p) }
+    ensures keeps { IfOk result (λ p. Keeps (script_of script.now) (birth_of spec.now) base no_past (map content_of answers.now) p.value) }
     // Its steps are those that the task began since the last of the answers.
-    ensures counts { IfOk result (λ p. HasSteps (script_of script.now) (birth_of spec.now) base (map content_of answers.now) p.steps) }
+    ensures counts { IfOk result (λ p. HasSteps (script_of script.now) (birth_of spec.now) base (map content_of answers.now) p.value.steps) }
 {
     match spec {
-        Birth::Put(value) => Ok(put_piece(alloc, value)?),
+        Birth::Put(value) => put_piece(alloc, value),
         Birth::Task {
             function,
             arguments,
@@ -295,22 +280,22 @@ pub fn go_on(
     frame: Frame,
     others: u8,
     answer: &Content,
-) -> Result<Piece, PieceError>
+) -> Result<Box<Piece>, PieceError>
     // Behind what was done before, what is given is the task's replay.
     ensures replayed { IfOk result (λ p. (spec : meant.Birth) (base : Id) (past : Past) → others_of spec ≡ others →
         IsWaiting (script_of script.now) spec base past frame →
-        after past.births past.prints (piece_of p) ≡ replay (script_of script.now) spec base (answered_so past answer.now)) }
+        after past.births past.prints (piece_of p.value) ≡ replay (script_of script.now) spec base (answered_so past answer.now)) }
     // It is broken only where the replay is, if no value of the task's has an outcome in it.
     ensures broken { IfErr result (λ e. e ≡ PieceError.Broken → (spec : meant.Birth) (base : Id) (past : Past) → others_of spec ≡ others →
         IsTaskBirth spec → AreTaskOutcomes past.answers → IsWaiting (script_of script.now) spec base past frame →
         IsBrokenStop (replay (script_of script.now) spec base (answered_so past answer.now)).stop) }
     // Its frame, if it has one, is where the task waits that was so answered.
     ensures keeps { IfOk result (λ p. (spec : meant.Birth) (base : Id) (past : Past) → IsWaiting (script_of script.now) spec base past frame →
-        Keeps (script_of script.now) spec base past (content_of answer.now ∷ []) p) }
+        Keeps (script_of script.now) spec base past (content_of answer.now ∷ []) p.value) }
     // Its steps are those that the task began since this answer.
     ensures counts { IfOk result (λ p. (spec : meant.Birth) (base : Id) (past : Past) → others_of spec ≡ others →
         IsWaiting (script_of script.now) spec base past frame →
-        HasSteps (script_of script.now) spec base (answered_so past answer.now) p.steps) }
+        HasSteps (script_of script.now) spec base (answered_so past answer.now) p.value.steps) }
 {
     let answer = from_content(alloc, answer)?;
     let attempt = frame.go_on(alloc, script, answer)?;

@@ -13,7 +13,7 @@ ghost use Rattle.frames.specs.Machines.{argument_of, made_of, Met};
 use crate::halt::{Halt, Made, MarkedArgument};
 use crate::registers::State;
 use crate::value::Value;
-use crate::working::share_from;
+use crate::working::registers_from;
 use frame_code::{Operand, Spawn};
 use std::alloc::{AllocError, Global};
 
@@ -59,8 +59,8 @@ impl State {
             (33 - (limit - vec_len self.now.callers)) spawn.now.retries spawn.now.others) }
     {
         let alloc = *self.registers.allocator();
-        let values = share_from(alloc, &self.registers, self.place(spawn.first), spawn.count)?;
-        let arguments = mark(alloc, &values, &spawn.marks)?;
+        let values = registers_from(&self.registers, self.place(spawn.first), spawn.count);
+        let arguments = mark(alloc, values, &spawn.marks)?;
         let function = spawn.function.clone()?;
         Ok(Made::Task {
             function,

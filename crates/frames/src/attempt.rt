@@ -33,7 +33,7 @@ pub struct Attempt {
     /// Why it stopped.
     pub halt: Halt,
     /// From where it goes on, if it waits for an answer.
-    pub frame: Option<Frame>,
+    pub frame: Option<Box<Frame>>,
     /// How many steps it began since the last of its answers.
     pub steps: u64,
 }
@@ -75,14 +75,17 @@ pub(crate) fn stop(course: Course, halt: Halt, limit: usize) -> Result<Attempt, 
         steps,
     } = course;
     if let Halt::Asks(reference, to) = &halt {
-        let frame = Frame {
-            state,
-            next,
-            reference: reference.share()?,
-            to: *to,
-            limit,
-            steps,
-        };
+        let frame = Box::new(
+            *births.allocator(),
+            Frame {
+                state,
+                next,
+                reference: reference.share()?,
+                to: *to,
+                limit,
+                steps,
+            },
+        )?;
         return Ok(Attempt {
             births,
             prints,

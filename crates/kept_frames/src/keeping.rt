@@ -115,9 +115,6 @@ impl<S: ScriptName> Frames<S> {
             return;
         };
         let place = place_of(done.job().base());
-        let Ok(frame) = Box::new(alloc, frame) else {
-            return;
-        };
         if let Some(known) = known_after(alloc, known, done) {
             self.put(place, Waiting::new(known, frame));
         }

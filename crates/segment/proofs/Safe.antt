@@ -1,5 +1,5 @@
 -- A job never breaks.
-use Rattle.std.proofs.Common.{◌≡◌, suc, List, [], ◌∷◌, inl, inr, subst}
+use Rattle.std.proofs.Common.{suc, List, [], ◌∷◌, inl, inr, subst}
 use Rattle.meaning.specs.Values as meant
 use Rattle.meaning.specs.Syntax.{Kind, results, Script}
 use Rattle.meaning.specs.Runs.{Stop, Needs, Over, piece}

@@ -51,14 +51,14 @@ impl<S: ScriptName> Model for Done<S> {
     ghost view = { λ d. done_of d.job d.piece.value };
 
     ghost invariant = { λ d. IsTrueOf S.script (done_of d.job d.piece.value)
-        × IfSome d.piece.value.frame (WaitsAfter S.script (done_of d.job d.piece.value)) × HasStepsOf S.script d.job d.piece.value.steps };
+        × IfSome d.piece.value.frame (λ f. WaitsAfter S.script (done_of d.job d.piece.value) f.value) × HasStepsOf S.script d.job d.piece.value.steps };
 }
 
 impl<S: ScriptName> Done<S> {
     /// The job with what was done on it.
     pub(crate) fn new(job: Job<S>, piece: Box<Piece>) -> Done<S>
         requires is_true { IsTrueOf S.script (done_of job piece.value) }
-        requires waits { IfSome piece.value.frame (WaitsAfter S.script (done_of job piece.value)) }
+        requires waits { IfSome piece.value.frame (λ f. WaitsAfter S.script (done_of job piece.value) f.value) }
         requires counts { HasStepsOf S.script job piece.value.steps }
         ensures { result ≡ done_of job piece.value }
     {
@@ -103,8 +103,8 @@ impl<S: ScriptName> Done<S> {
     }
 
     /// Takes the frame from which the task goes on, if there is one, and leaves the rest as it is.
-    pub fn take_frame(&mut self) -> Option<Frame>
-        ensures waits { IfSome result (WaitsAfter S.script self.old) }
+    pub fn take_frame(&mut self) -> Option<Box<Frame>>
+        ensures waits { IfSome result (λ f. WaitsAfter S.script self.old f.value) }
         ensures same { self.new ≡ self.old }
     {
         self.piece.frame.take()

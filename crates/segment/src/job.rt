@@ -166,9 +166,6 @@ impl<S: ScriptName> Job<S> {
             Err(PieceError::Broken) => unreachable!(),
             Err(PieceError::NoMemory) => return Err(NoMemory),
         };
-        let Ok(piece) = Box::new(alloc, piece) else {
-            return Err(NoMemory);
-        };
         let job = Job {
             parts,
             frame: None,

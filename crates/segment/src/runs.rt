@@ -1,6 +1,6 @@
 // How a job is run: from its frame, or again from its task's beginning.
 
-ghost use Rattle.std.specs.Prelude.{◌≡◌, IfOk, IfErr, IfSome, drop};
+ghost use Rattle.std.specs.Prelude.{◌≡◌, IfOk, IfErr, IfSome, OnOk, drop};
 ghost use Rattle.meaning.specs.Values.{others_of};
 ghost use Rattle.evaluation.specs.of_script_check.Trees.{script_of};
 ghost use Rattle.evaluation.specs.Pieces.{IsBrokenStop, piece_of};
@@ -14,34 +14,32 @@ use held::{JobParts, SharedBirth};
 use std::alloc::{AllocError, Global};
 use task_spec::Birth;
 
-/// The items after the first `count`, moved.
-fn items_after<T: Drop>(items: Vec<T>, count: usize) -> Result<Vec<T>, AllocError>
-    ensures { IfOk result (λ rest. rest.items ≡ drop count items.items) }
+/// Leaves the items after the first `count`.
+fn leave_after<T: Drop>(items: &mut Vec<T>, count: usize) -> Result<(), AllocError>
+    ensures { OnOk result (items.new.items ≡ drop count items.old.items) }
 {
-    let mut items = items;
+    if count == 0 {
+        return Ok(());
+    }
     let at = count.min(items.len());
-    items.split_off(at)
+    let rest = items.split_off(at)?;
+    *items = rest;
+    Ok(())
 }
 
 /// Runs the task from its start on the answers, and gives what it bears and prints beyond what it bore and printed before. What the
 /// run makes again is dropped.
-fn run_again(alloc: Global, script: &Compiled, job: &JobParts) -> Result<Piece, PieceError>
-    ensures beyond { IfOk result (λ p. piece_of p ≡ beyond job.now (replay_of (script_of script.now) job.now)) }
+fn run_again(alloc: Global, script: &Compiled, job: &JobParts) -> Result<Box<Piece>, PieceError>
+    ensures beyond { IfOk result (λ p. piece_of p.value ≡ beyond job.now (replay_of (script_of script.now) job.now)) }
     ensures broken { IfErr result (λ e. e ≡ PieceError.Broken → IsBrokenStop (replay_of (script_of script.now) job.now).stop) }
-    ensures waits { IfOk result (λ p. IsTrueOf (script_of script.now) (done_of job.now p) →
-        IfSome p.frame (WaitsAfter (script_of script.now) (done_of job.now p))) }
-    ensures counts { IfOk result (λ p. HasStepsOf (script_of script.now) job.now p.steps) }
+    ensures waits { IfOk result (λ p. IsTrueOf (script_of script.now) (done_of job.now p.value) →
+        IfSome p.value.frame (λ f. WaitsAfter (script_of script.now) (done_of job.now p.value) f.value)) }
+    ensures counts { IfOk result (λ p. HasStepsOf (script_of script.now) job.now p.value.steps) }
 {
-    let piece = run_piece(alloc, script, &job.spec.inner, job.base, &job.answers.inner)?;
-    let births = items_after(piece.births, job.births.len())?;
-    let prints = items_after(piece.prints, job.prints.len())?;
-    Ok(Piece {
-        births,
-        prints,
-        stop: piece.stop,
-        frame: piece.frame,
-        steps: piece.steps,
-    })
+    let mut piece = run_piece(alloc, script, &job.spec.inner, job.base, &job.answers.inner)?;
+    leave_after(&mut piece.births, job.births.len())?;
+    leave_after(&mut piece.prints, job.prints.len())?;
+    Ok(piece)
 }
 
 /// Tells that no value of a task has an outcome in it, and does nothing.
@@ -73,13 +71,13 @@ pub(crate) fn run_on(
     script: &Compiled,
     job: &JobParts,
     frame: Option<Box<Frame>>,
-) -> Result<Piece, PieceError>
+) -> Result<Box<Piece>, PieceError>
     requires begun { IsBegun (script_of script.now) job.now }
     requires fits { IfSome frame (λ f. Fits (script_of script.now) job.now f.value) }
-    ensures whole { IfOk result (λ p. IsTrueOf (script_of script.now) (done_of job.now p)) }
+    ensures whole { IfOk result (λ p. IsTrueOf (script_of script.now) (done_of job.now p.value)) }
     ensures broken { IfErr result (λ e. e ≡ PieceError.Broken → IsBrokenStop (replay_of (script_of script.now) job.now).stop) }
-    ensures waits { IfOk result (λ p. IfSome p.frame (WaitsAfter (script_of script.now) (done_of job.now p))) }
-    ensures counts { IfOk result (λ p. HasStepsOf (script_of script.now) job.now p.steps) }
+    ensures waits { IfOk result (λ p. IfSome p.value.frame (λ f. WaitsAfter (script_of script.now) (done_of job.now p.value) f.value)) }
+    ensures counts { IfOk result (λ p. HasStepsOf (script_of script.now) job.now p.value.steps) }
 {
     let Some(frame) = frame else {
         return run_again(alloc, script, job);

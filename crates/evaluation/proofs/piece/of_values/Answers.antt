@@ -1,4 +1,4 @@
-use Rattle.std.proofs.Common.{◌≡◌, ◌+◌, map, drop, subst, arith}
+use Rattle.std.proofs.Common.{◌≡◌, ◌+◌, map, drop, arith}
 use Rattle.meaning.specs.Values.{Returned, outcomes}
 use Rattle.frames.specs.Values.{value_of}
 use Rattle.frames.proofs.Endings.{without_next}

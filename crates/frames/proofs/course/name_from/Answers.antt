@@ -1,7 +1,6 @@
-use Rattle.std.proofs.Common.{◌≡◌, ◌-◌, ◌++◌, ◌∙◌, map, sym, ap, arith}
+use Rattle.std.proofs.Common.{◌∙◌, ap, arith}
 use Rattle.meaning.specs.Values.{Named}
-use Rattle.meaning.specs.Runs.{next_id, past}
-use Rattle.frames.specs.Values.{value_of}
+use Rattle.meaning.specs.Runs.{next_id}
 use Rattle.frames.proofs.Meeting.{named_next, named_all, past_next, past_all}
 use Rattle.frames.proofs.course.name_from.Goals as goal
 

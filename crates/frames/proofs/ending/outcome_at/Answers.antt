@@ -1,4 +1,4 @@
-use Rattle.std.proofs.Common.{map, drop, ◌+◌, ◌∙◌, sym, ap, arith}
+use Rattle.std.proofs.Common.{◌∙◌, sym, ap, arith}
 use Rattle.meaning.specs.Values.{Returned, Val, first_outcome}
 use Rattle.frames.specs.Values.{value_of}
 use Rattle.frames.proofs.Endings.{none_left}

@@ -8,7 +8,7 @@ use Rattle.protocol_core.proofs.handed.is_done_on.Goals as goal
 pub is_own_job-requires-clause-pace : goal.is_own_job-requires-clause-pace
 is_own_job-requires-clause-pace g c =
     let number = c.from.ensures ∙ ap (λ (x : JobRecord). x.worker) c.given.view_is in
-    let there = ap (λ n. item_at c.args.whole.now.workers n) (sym number) ∙ c.in-Some-item_at_number.ensures in
+    let there = ap (λ n. item_at c.args.whole.now.workers n) (sym number) ∙ ap (λ ws. item_at ws c.from.result) (sym c.rows.ensures) ∙ c.in-Some-item_at_number.ensures in
     let live = ap (λ (x : Worker). x.is_live) (sym c.deref-2.ensures) ∙ c.if-not-deref.false in
     let runs = ap (λ (x : Worker). x.run) (sym c.deref.ensures) ∙ c.in-Some-run.is in
     c.requires.pace c.in-Some.given.now.worker c.in-Some-item_at_number.worker.now c.in-Some-run.run' there live runs
@@ -16,7 +16,7 @@ is_own_job-requires-clause-pace g c =
 pub is_own_job-requires-clause-answers : goal.is_own_job-requires-clause-answers
 is_own_job-requires-clause-answers g c =
     let number = c.from.ensures ∙ ap (λ (x : JobRecord). x.worker) c.given.view_is in
-    let there = ap (λ n. item_at c.args.whole.now.workers n) (sym number) ∙ c.in-Some-item_at_number.ensures in
+    let there = ap (λ n. item_at c.args.whole.now.workers n) (sym number) ∙ ap (λ ws. item_at ws c.from.result) (sym c.rows.ensures) ∙ c.in-Some-item_at_number.ensures in
     let live = ap (λ (x : Worker). x.is_live) (sym c.deref-2.ensures) ∙ c.if-not-deref.false in
     let runs = ap (λ (x : Worker). x.run) (sym c.deref.ensures) ∙ c.in-Some-run.is in
     let own = c.requires.own c.if-is_own.true c.in-Some.given.now.worker c.in-Some-item_at_number.worker.now c.in-Some-run.run' there live runs in
@@ -25,7 +25,7 @@ is_own_job-requires-clause-answers g c =
 pub is_job_in_pace-requires : goal.is_job_in_pace-requires
 is_job_in_pace-requires g c =
     let number = c.from.ensures ∙ ap (λ (x : JobRecord). x.worker) c.given.view_is in
-    let there = ap (λ n. item_at c.args.whole.now.workers n) (sym number) ∙ c.in-Some-item_at_number.ensures in
+    let there = ap (λ n. item_at c.args.whole.now.workers n) (sym number) ∙ ap (λ ws. item_at ws c.from.result) (sym c.rows.ensures) ∙ c.in-Some-item_at_number.ensures in
     let live = ap (λ (x : Worker). x.is_live) (sym c.deref-2.ensures) ∙ c.if-not-deref.false in
     let runs = ap (λ (x : Worker). x.run) (sym c.deref.ensures) ∙ c.in-Some-run.is in
     c.requires.pace c.in-Some.given.now.worker c.in-Some-item_at_number.worker.now c.in-Some-run.run' there live runs

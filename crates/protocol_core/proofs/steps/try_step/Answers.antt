@@ -42,8 +42,8 @@ returns-in-Taken-None-clause-kept g c =
     c.in_ok-add.ensures.ok (c.add.ensures.whole ∙ c.in_ok-verdict.ensures.whole) c.add.ensures.nodes (c.add.ensures.halted ∙ c.requires.goes_on) in
     kept_behind script before after e c.args.seat c.args.done c.in_ok-verdict.verdict c.requires.kept c.requires.goes_on c.event_keeps_sound.ensures c.sound_is_legal.ensures h
 
-pub returns-in-Taken-Some-clause-kept : goal.returns-in-Taken-Some-clause-kept
-returns-in-Taken-Some-clause-kept g c =
+pub returns-clause-kept : goal.returns-clause-kept
+returns-clause-kept g c =
     let script = g.S.ScriptName.script in
     let before = state_of c.args.state.now in
     let after = state_of c.add.new.self in
@@ -69,8 +69,8 @@ new-requires g c =
     subst (λ j. IsBegun script j) (sym c.job.view_is) begun
 
 -- that job is what the event comes to
-pub returns-in-Taken-Some-clause-applied : goal.returns-in-Taken-Some-clause-applied
-returns-in-Taken-Some-clause-applied g c =
+pub returns-clause-applied : goal.returns-clause-applied
+returns-clause-applied g c =
     let script = g.S.ScriptName.script in
     let before = state_of c.args.state.now in
     let after = state_of c.add.new.self in
@@ -84,8 +84,8 @@ returns-in-Taken-Some-clause-applied g c =
     applies script before after e c.args.seat c.args.done c.in_ok-verdict.verdict (GivesJob c.new.result) h (subst (λ j. told.Tells (answer before.whole e h.handed) (GivesJob j)) (sym (c.new.ensures ∙ c.job.view_is)) tells)
 
 -- and its answers begin what the log has of answers to its attempt
-pub returns-in-Taken-Some-clause-own : goal.returns-in-Taken-Some-clause-own
-returns-in-Taken-Some-clause-own g c =
+pub returns-clause-own : goal.returns-clause-own
+returns-clause-own g c =
     let script = g.S.ScriptName.script in
     let before = state_of c.args.state.now in
     let after = state_of c.add.new.self in

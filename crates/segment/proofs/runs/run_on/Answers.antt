@@ -22,14 +22,14 @@ pub returns-in_default-clause-whole : goal.returns-in_default-clause-whole
 returns-in_default-clause-whole c =
     let j = c.args.job.now in
     if_ok _ _ c.run_again.result
-    (λ p is. whole_made j p (replay_of (script_of c.args.script.now) j) c.requires.begun.births c.requires.begun.prints is) c.run_again.ensures.beyond
+    (λ p is. whole_made j p.value (replay_of (script_of c.args.script.now) j) c.requires.begun.births c.requires.begun.prints is) c.run_again.ensures.beyond
 
 -- and where it waits, it waits for the next answer
 pub returns-in_default-clause-waits : goal.returns-in_default-clause-waits
 returns-in_default-clause-waits c =
     let j = c.args.job.now in
     both_ok _ _ _ c.run_again.result
-    (λ p is waits. waits (whole_made j p (replay_of (script_of c.args.script.now) j) c.requires.begun.births c.requires.begun.prints is))
+    (λ p is waits. waits (whole_made j p.value (replay_of (script_of c.args.script.now) j) c.requires.begun.births c.requires.begun.prints is))
     c.run_again.ensures.beyond c.run_again.ensures.waits
 
 -- with a frame it goes on with the last answer, and before that stands what the job had
@@ -86,8 +86,8 @@ returns-clause-waits c =
     let fits : Fits script j c.into_inner.result = subst (Fits script j) (sym c.into_inner.ensures) kept in
     let waits = waits_last script j c.into_inner.result rest answer last fits in
     if_ok _ _ c.go_on.result
-    (λ p keeps. subst (λ cs. IfSome p.frame (IsWaiting script j.spec j.base
-    (record { answers = cs; births = (whole_of (done_of j p)).births; prints = (whole_of (done_of j p)).prints })))
+    (λ p keeps. subst (λ cs. IfSome p.value.frame (λ f. IsWaiting script j.spec j.base
+    (record { answers = cs; births = (whole_of (done_of j p.value)).births; prints = (whole_of (done_of j p.value)).prints }) f.value))
     (sym last) (keeps j.spec j.base (before_of j rest) waits))
     c.go_on.ensures.keeps
 
@@ -105,6 +105,6 @@ returns-clause-counts c =
     let fits : Fits script j c.into_inner.result = subst (Fits script j) (sym c.into_inner.ensures) kept in
     let waits = waits_last script j c.into_inner.result rest answer last fits in
     if_ok _ _ c.go_on.result
-    (λ p counts. subst (λ cs. HasSteps script j.spec j.base cs p.steps) (sym last)
+    (λ p counts. subst (λ cs. HasSteps script j.spec j.base cs p.value.steps) (sym last)
     (counts j.spec j.base (before_of j rest) (sym (c.others.ensures ∙ ap (λ (x : JobParts). others_of x.spec) c.job.view_is)) waits))
     c.go_on.ensures.counts

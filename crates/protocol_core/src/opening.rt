@@ -15,6 +15,9 @@ use std::alloc::{AllocError, Global};
 use task_spec::Birth;
 use worker_steps::main_attempt;
 
+/// How many messages a run has room for from its start: as many as make a list that isn't copied where it grows, as the log's entries do.
+const MESSAGES: usize = 2048;
+
 /// So many nodes with so many slots each.
 fn first_nodes(alloc: Global, nodes: u8, slots: u32) -> Result<Seq<Boxed<Node>>, AllocError>
     ensures { IfOk result (λ all. all ≡ new_nodes nodes slots) }
@@ -104,12 +107,14 @@ pub fn first_whole(alloc: Global, nodes: u8, slots: u8) -> Result<ClusterState, 
     give_driver_a_slot(alloc, &mut all)?;
     let mut workers = Workers::new(alloc);
     workers.push(Boxed::new(alloc, driver(alloc)?)?)?;
+    let mut network = Seq::new(alloc);
+    network.items.reserve(MESSAGES)?;
     Ok(ClusterState {
         slots,
         nodes: all,
         workers,
         made: 1,
-        network: Seq::new(alloc),
+        network,
         delivered: Seq::new(alloc),
         jobs: Seq::new(alloc),
     })

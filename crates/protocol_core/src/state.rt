@@ -31,11 +31,16 @@ pub struct State {
     pub is_halted: bool,
 }
 
+/// How many entries a log has room for from its start. A list that grows is copied, up to the size from which on the C library moves its pages instead, of
+/// which it has none before they are written. This one is that large.
+const ENTRIES: usize = 4096;
+
 /// The log of a run that begins: worker 1 on node 1 runs main.
 fn opening(alloc: Global) -> Result<Seq<Entry>, AllocError>
     ensures { IfOk result (λ log. log ≡ opening) }
 {
     let mut log = Seq::new(alloc);
+    log.items.reserve(ENTRIES)?;
     log.push(Entry::Opened {
         worker: WorkerId(1),
         node: NodeId(1),

@@ -1,5 +1,5 @@
 -- The items of chunks.
-use Rattle.std.specs.Prelude.{◌≡◌, List, [], ◌∷◌, length, map}
+use Rattle.std.specs.Prelude.{◌≡◌, List, [], ◌∷◌, Option, Some, None, length, map}
 use Rattle.std.specs.List.{flat_map}
 use Rattle.std.specs.Arc.{arc_value}
 use Rattle.std.specs.declared.sync.Arc.{Arc}
@@ -8,6 +8,11 @@ use Rattle.std.specs.declared.vec.Vec.{Vec}
 -- the items of a chunk
 abbrev pub items_of : {T A B C : Type 0} → Arc (Vec (Arc T A) B) C → List T
 items_of c = map arc_value (arc_value c).items
+
+-- the items of the chunk behind the full ones, if there is one
+abbrev pub last_items : {T A B C : Type 0} → Option (Arc (Vec (Arc T A) B) C) → List T
+last_items None = []
+last_items (Some c) = items_of c
 
 -- the items of all chunks, in order
 abbrev pub items_in : {T A B C : Type 0} → List (Arc (Vec (Arc T A) B) C) → List T

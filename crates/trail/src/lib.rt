@@ -3,7 +3,7 @@
 
 ghost use Rattle.std.specs.Prelude.{◌≡◌, ◌<◌, ◌≤◌, ◌∷◌, ◌++◌, [], IfOk, OnOk, OnErr, length, map};
 ghost use Rattle.std.specs.Arc.{arc_value};
-ghost use Rattle.trail.specs.Chunks.{AreFull, items_in, items_of};
+ghost use Rattle.trail.specs.Chunks.{AreFull, items_in, items_of, last_items};
 
 use std::alloc::{AllocError, Global};
 use std::marker::Model;
@@ -13,25 +13,25 @@ use std::sync::Arc;
 /// So many items share a chunk.
 const ITEMS_OF_A_CHUNK: usize = 64;
 
-/// A list that contracts see as a list. Copies share its items, in chunks: one costs as much as a number for each 64 items, whatever they
-/// are, and for each of those behind the last full chunk, of which there are 64 at most. The list and its copies may stand in different threads.
+/// A list that contracts see as a list. Copies share its items, in chunks of 64: one costs as much as a number for each chunk, whatever the items are.
+/// An item is added in place where no copy shares the chunk behind the last full one; else that chunk is made anew, with the same items. The
+/// list and its copies may stand in different threads.
 #[derive(Drop)]
 pub struct Trail<T> {
     full: Vec<Arc<Vec<Arc<T>>>>,
-    last: Vec<Arc<T>>,
+    last: Option<Arc<Vec<Arc<T>>>>,
     count: usize,
 }
 
 impl<T> Model for Trail<T> {
-    ghost use Rattle.std.specs.Prelude.{◌≡◌, ◌≤◌, ◌++◌, List, length, map};
-    ghost use Rattle.std.specs.Arc.{arc_value};
-    ghost use Rattle.trail.specs.Chunks.{AreFull, items_in};
+    ghost use Rattle.std.specs.Prelude.{◌≡◌, ◌≤◌, ◌++◌, List, length};
+    ghost use Rattle.trail.specs.Chunks.{AreFull, items_in, last_items};
 
     ghost Value = { List T };
 
-    ghost view = { λ t. items_in t.full.items ++ map arc_value t.last.items };
+    ghost view = { λ t. items_in t.full.items ++ last_items t.last };
 
-    ghost invariant = { λ t. (t.count ≡ length (items_in t.full.items ++ map arc_value t.last.items)) × AreFull t.full.items × (length t.last.items ≤ 64) };
+    ghost invariant = { λ t. (t.count ≡ length (items_in t.full.items ++ last_items t.last)) × AreFull t.full.items × (length (last_items t.last) ≤ 64) };
 }
 
 /// The same chunks.
@@ -60,23 +60,68 @@ fn share_items<T: Drop>(shared: &mut Vec<Arc<T>>, items: &[Arc<T>]) -> Result<()
     Ok(())
 }
 
-/// Puts the last chunk behind the full ones, once it is full.
-fn close<T: Drop>(
+/// The same chunk, if there is one.
+fn share_last<T: Drop>(
+    last: &Option<Arc<Vec<Arc<T>>>>,
+) -> Result<Option<Arc<Vec<Arc<T>>>>, AllocError>
+    ensures { IfOk result (λ other. last_items other ≡ last_items last.now) }
+{
+    match last {
+        None => Ok(None),
+        Some(chunk) => Ok(Some(Arc::try_clone(chunk)?)),
+    }
+}
+
+/// A chunk of one item.
+fn new_chunk<T: Drop>(alloc: Global, item: Arc<T>) -> Result<Arc<Vec<Arc<T>>>, AllocError>
+    ensures { IfOk result (λ chunk. items_of chunk ≡ arc_value item ∷ []) }
+{
+    let mut items = Vec::new(alloc);
+    items.push(item)?;
+    Ok(Arc::new(alloc, items)?)
+}
+
+/// The chunk with an item more, which is added in place where nobody else has the chunk.
+fn add_to<T: Drop>(
+    alloc: Global,
+    chunk: Arc<Vec<Arc<T>>>,
+    item: Arc<T>,
+) -> Result<Arc<Vec<Arc<T>>>, AllocError>
+    ensures { IfOk result (λ more. items_of more ≡ items_of chunk ++ arc_value item ∷ []) }
+{
+    let mut chunk = chunk;
+    if let Some(items) = Arc::get_mut(&mut chunk) {
+        items.push(item)?;
+        return Ok(chunk);
+    }
+    let mut items = Vec::new(alloc);
+    items.reserve(ITEMS_OF_A_CHUNK)?;
+    share_items(&mut items, &chunk)?;
+    items.push(item)?;
+    Ok(Arc::new(alloc, items)?)
+}
+
+/// The chunk behind the full ones, with an item more; where it was full it stands with those now, and the item is the first of a new one.
+fn add<T: Drop>(
     alloc: Global,
     full: &mut Vec<Arc<Vec<Arc<T>>>>,
-    last: &mut Vec<Arc<T>>,
-) -> Result<(), AllocError>
-    requires { length last.old.items ≤ 64 }
-    ensures items { OnOk result (items_in full.new.items ++ map arc_value last.new.items ≡ items_in full.old.items ++ map arc_value last.old.items) }
+    last: Option<Arc<Vec<Arc<T>>>>,
+    item: Arc<T>,
+) -> Result<Arc<Vec<Arc<T>>>, AllocError>
+    requires { length (last_items last) ≤ 64 }
+    ensures items { IfOk result (λ chunk. items_in full.new.items ++ items_of chunk ≡ (items_in full.old.items ++ last_items last) ++ arc_value item ∷ []) }
     ensures full { OnOk result (AreFull full.old.items → AreFull full.new.items) }
-    ensures room { OnOk result (length last.new.items < 64) }
+    ensures room { IfOk result (λ chunk. length (items_of chunk) ≤ 64) }
 {
-    if last.len() < ITEMS_OF_A_CHUNK {
-        return Ok(());
+    let Some(chunk) = last else {
+        return new_chunk(alloc, item);
+    };
+    if chunk.len() < ITEMS_OF_A_CHUNK {
+        return add_to(alloc, chunk, item);
     }
-    let chunk = mem::replace(last, Vec::new(alloc));
-    full.push(Arc::new(alloc, chunk)?)?;
-    Ok(())
+    let next = new_chunk(alloc, item)?;
+    full.push(chunk)?;
+    Ok(next)
 }
 
 impl<T> Trail<T> {
@@ -86,7 +131,7 @@ impl<T> Trail<T> {
     {
         Trail {
             full: Vec::new(alloc),
-            last: Vec::new(alloc),
+            last: None,
             count: 0,
         }
     }
@@ -106,14 +151,13 @@ impl<T: Drop> Trail<T> {
     {
         let Trail { full, last, count } = self;
         let mut full = full;
-        let mut last = last;
         let Some(count) = count.checked_add(1) else {
             // No memory has room for one item more than these: the growth is refused.
-            last.reserve(usize::MAX)?;
+            full.reserve(usize::MAX)?;
             unreachable!();
         };
-        close(alloc, &mut full, &mut last)?;
-        last.push(item)?;
+        let chunk = add(alloc, &mut full, last, item)?;
+        let last = Some(chunk);
         Ok(Trail { full, last, count })
     }
 
@@ -143,8 +187,7 @@ impl<T: Drop> Trail<T> {
         ensures { IfOk result (λ other. other ≡ self.now) }
     {
         let full = share_chunks(alloc, &self.full)?;
-        let mut last = Vec::new(alloc);
-        share_items(&mut last, &self.last)?;
+        let last = share_last(&self.last)?;
         Ok(Trail {
             full,
             last,
@@ -160,7 +203,9 @@ impl<T: Drop> Trail<T> {
         for chunk in &self.full {
             share_items(&mut items, chunk)?;
         }
-        share_items(&mut items, &self.last)?;
+        if let Some(chunk) = &self.last {
+            share_items(&mut items, chunk)?;
+        }
         Ok(items)
     }
 }

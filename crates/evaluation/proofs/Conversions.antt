@@ -1,4 +1,4 @@
--- Lists of values, arguments and births are converted item by item, and what is plain has plain parts.
+-- Lists of values and arguments are converted item by item, and what is plain has plain parts.
 use Rattle.std.proofs.Common.{◌≡◌, ℕ, zero, suc, ◌<◌, ◌≤◌, List, [], ◌∷◌, length, get_or, take, map, sym, ap, subst, ◌∙◌, arith}
 use Rattle.std.proofs.lemmas.List.{take_all}
 use Rattle.std.specs.declared.vec.Vec.{Vec}
@@ -10,12 +10,11 @@ use Rattle.values.specs.Values.{value_of as task_value}
 use Rattle.values.specs.declared.value.RunValue.{RunValue, List as TaskList}
 use Rattle.values.proofs.Rows.{value_of-list as task_list}
 use Rattle.frames.specs.Values.{value_of}
-use Rattle.frames.specs.Machines.{argument_of, made_of}
-use Rattle.evaluation.specs.TaskValues.{IsTaskValue, AreTaskValues, EachTaskValue, AreTaskArguments, IsTaskBirth, AreTaskBirths}
+use Rattle.frames.specs.Machines.{argument_of}
+use Rattle.evaluation.specs.TaskValues.{IsTaskValue, AreTaskValues, EachTaskValue, AreTaskArguments}
 use Rattle.frames.specs.declared.value.Value.{Value, List as AList}
 use Rattle.frames.specs.declared.value.Items.{Items}
 use Rattle.frames.specs.declared.halt.MarkedArgument.{MarkedArgument}
-use Rattle.frames.specs.declared.halt.Made.{Made}
 use Rattle.frames.proofs.Rows.{list_is}
 
 pub from_list : (v : Value) (r : RunValue) (row : Vec RunValue Global) (xs : List RunValue) (ys : List Value) (i : ℕ) → value_of v ≡ meant.Items (values_of (map value_of ys)) → map value_of ys ≡ map task_value (take i xs) → length xs ≤ i → xs ≡ row.items → r ≡ TaskList row → value_of v ≡ task_value r
@@ -46,14 +45,6 @@ pub argument_within : (xs : List MarkedArgument) (i : ℕ) (d : MarkedArgument) 
 argument_within xs i d h is p = subst (λ (x : MarkedArgument). IsTaskValue (value_of x.value)) (sym is) (at xs i d h p)
   where
     at : (xs : List MarkedArgument) (i : ℕ) (d : MarkedArgument) → i < length xs → AreTaskArguments (map argument_of xs) → IsTaskValue (value_of (get_or xs i d).value)
-    at [] i d h p = absurd (omega arith)
-    at (x ∷ xs) zero d h p = p.0
-    at (x ∷ xs) (suc i) d h p = at xs i d (omega arith) p.1
-
-pub birth_within : (xs : List Made) (i : ℕ) (d : Made) → i < length xs → d ≡ get_or xs i d → AreTaskBirths (map made_of xs) → IsTaskBirth (made_of d)
-birth_within xs i d h is p = subst (λ x. IsTaskBirth (made_of x)) (sym is) (at xs i d h p)
-  where
-    at : (xs : List Made) (i : ℕ) (d : Made) → i < length xs → AreTaskBirths (map made_of xs) → IsTaskBirth (made_of (get_or xs i d))
     at [] i d h p = absurd (omega arith)
     at (x ∷ xs) zero d h p = p.0
     at (x ∷ xs) (suc i) d h p = at xs i d (omega arith) p.1

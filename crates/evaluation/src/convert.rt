@@ -222,7 +222,7 @@ pub(crate) fn to_births(alloc: Global, births: Vec<Made>) -> Result<Vec<Birth>, 
     ensures kind { IfErr result (λ e. e ≡ ConversionError.Broken → ⊥) }
     ensures plain { IfErr result (λ e. e ≡ ConversionError.HasOutcome → AreTaskBirths (map made_of births.items) → ⊥) }
 {
-    let mut copies = Vec::new(alloc);
+    let mut copies = Vec::with_capacity(alloc, births.len())?;
     for made in births {
         copies.push(to_birth(alloc, made)?)?;
     }

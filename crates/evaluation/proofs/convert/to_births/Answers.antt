@@ -12,7 +12,7 @@ pub returns-in_err-to_birth-clause-plain : goal.returns-in_err-to_birth-clause-p
 returns-in_err-to_birth-clause-plain c =
     let rest = map made_of c.next.new.self.rest.items in
     let took : map made_of c.loop-made.made-iterator.rest.items ≡ made_of c.in-Some.made ∷ rest = search (rules, c.in-Some.ensures.steps, c.in-Some.ensures.goes) in
-    handed_on (λ (e : ConversionError). e ≡ HasOutcome → AreTaskBirths (map made_of c.args.births.items) → ⊥) c.from_residual.result c.in_err-to_birth.field-0.0 c.from_residual.ensures.1
+    handed_on (λ (e : ConversionError). e ≡ HasOutcome → AreTaskBirths (map made_of c.args.births.items) → ⊥) c.from_residual-in_err-to_birth.result c.in_err-to_birth.field-0.0 c.from_residual-in_err-to_birth.ensures.1
     (λ e p. c.in_err-to_birth.ensures.plain e
     (births_behind (map birth_of c.loop-made.copies.items) (made_of c.in-Some.made ∷ rest)
     (subst AreTaskBirths (sym c.loop-made.invariant ∙ ap (λ l. map birth_of c.loop-made.copies.items ++ l) took) p)).0)

@@ -1,5 +1,5 @@
 -- Whether there is room for what a worker's event opens, which is one worker at most.
-use Rattle.std.proofs.Common.{◌≡◌, ◌≤◌, ◌<◌, ℕ, ◌+◌, Bool, true, false, length, Option, Some, None, refl, ap, ◌∙◌, arith}
+use Rattle.std.proofs.Common.{◌≡◌, ◌≤◌, ◌<◌, ℕ, ◌+◌, Bool, true, false, List, length, Option, Some, None, refl, ap, ◌∙◌, arith}
 use Rattle.std.specs.Prelude.{◌&&◌, nat_lt}
 use Rattle.std.proofs.lemmas.Bool.Decides.{nat_tests}
 use Rattle.step_laws.specs.Limits.{is_within}
@@ -8,30 +8,37 @@ use Rattle.step_laws.proofs.Counts.{worker_counts}
 use Rattle.step_laws.proofs.Committing.{commit_opens}
 use Rattle.step_laws.proofs.OneOpens.{claim_opens, notice_node_opens, notice_opens, reached_opens, tick_opens}
 use Rattle.step_laws.proofs.Releasing.{release_opens_none}
+use Rattle.protocol.specs.Messages.{Envelope}
 use Rattle.protocol.specs.Nodes.{Node}
+use Rattle.protocol.specs.Numbered.{item_at}
 use Rattle.protocol.specs.Releases.{release_step}
 use Rattle.protocol.specs.Steps.{WorkerContext}
 use Rattle.protocol.specs.Tables.{Worker}
 use Rattle.protocol.specs.Cluster.{ClusterState, here, node_at, worker_at, worker_does, worker_does_at, worker_does_by}
-use Rattle.worker_acts.specs.Acts.{act_step}
+use Rattle.worker_acts.specs.Acts.{act_step, received}
 use Rattle.worker_acts.specs.declared.part.Act.{Act}
 use Rattle.worker_acts.specs.declared.part.Act.TheVariants.{Claim, Commit, Receive, LearnNodeDied, LearnWorkerDied, Tick}
 
-act_opens : (a : Act) (h : WorkerContext) → (act_step a h).there.opened ≤ h.there.opened + 1
-act_opens (Claim j) h = claim_opens h j
-act_opens (Commit d) h = commit_opens h d
-act_opens (Receive sender m) h = reached_opens h sender m
-act_opens Tick h = tick_opens h
-act_opens (LearnWorkerDied v) h = notice_opens h v
-act_opens (LearnNodeDied n) h = notice_node_opens h n
+received_opens : (h : WorkerContext) (o : Option Envelope) → (received h o).there.opened ≤ h.there.opened + 1
+received_opens h None = omega arith
+received_opens h (Some l) = reached_opens h l.sender l.message
+
+act_opens : (sent : List Envelope) (a : Act) (h : WorkerContext) → (act_step sent a h).there.opened ≤ h.there.opened + 1
+act_opens sent (Claim j) h = claim_opens h j
+act_opens sent (Commit d) h = commit_opens h d
+act_opens sent (Receive k) h = received_opens h (item_at sent k)
+act_opens sent Tick h = tick_opens h
+act_opens sent (LearnWorkerDied v) h = notice_opens h v
+act_opens sent (LearnNodeDied n) h = notice_node_opens h n
 
 same_most : (a b c : ℕ) → a ≡ b → b ≤ c → a ≤ c
 same_most a b c e l = omega (arith, e, l)
 
 -- a worker's part in an event opens one worker at most
-part_opens : (a : Act) (h : WorkerContext) → (release_step (act_step a h)).there.opened ≤ h.there.opened + 1
-part_opens a h =
-    same_most (release_step (act_step a h)).there.opened (act_step a h).there.opened (h.there.opened + 1) (release_opens_none (act_step a h)) (act_opens a h)
+part_opens : (sent : List Envelope) (a : Act) (h : WorkerContext) → (release_step (act_step sent a h)).there.opened ≤ h.there.opened + 1
+part_opens sent a h =
+    same_most (release_step (act_step sent a h)).there.opened (act_step sent a h).there.opened (h.there.opened + 1) (release_opens_none (act_step sent a h))
+    (act_opens sent a h)
 
 still_no : (a b c d : Bool) → (d ≡ true → b ≡ true) → (a && b) && c ≡ false → (a && d) && c ≡ false
 still_no false b c d f e = refl
@@ -86,19 +93,19 @@ no_room c made w f e = no_room_by c made w f (worker_at c w) e
 
 -- ---- with fewer workers than there may be, there is room for one
 
-room_at : (c : ClusterState) (made w : ℕ) (x : Worker) (a : Act) (o : Option Node) → length c.workers < 1024 → fits (length c.nodes) (length c.workers + 0) made ≡ true
-    → is_within made (worker_does_at c w x (act_step a) o).whole ≡ true
-room_at c made w x a None l e = as_it_is c made ∙ e
-room_at c made w x a (Some node) l e =
-    let h : WorkerContext = release_step (act_step a (here c w x node)) in
+room_at : (c : ClusterState) (made w : ℕ) (x : Worker) (sent : List Envelope) (a : Act) (o : Option Node) → length c.workers < 1024 → fits (length c.nodes) (length c.workers + 0) made ≡ true
+    → is_within made (worker_does_at c w x (act_step sent a) o).whole ≡ true
+room_at c made w x sent a None l e = as_it_is c made ∙ e
+room_at c made w x sent a (Some node) l e =
+    let h : WorkerContext = release_step (act_step sent a (here c w x node)) in
     worker_counts c made w x.node h
-    ∙ one_yes (length c.nodes) (length c.workers) h.there.opened made l (at_most_one h.there.opened (part_opens a (here c w x node))) e
+    ∙ one_yes (length c.nodes) (length c.workers) h.there.opened made l (at_most_one h.there.opened (part_opens sent a (here c w x node))) e
 
-room_by : (c : ClusterState) (made w : ℕ) (a : Act) (o : Option Worker) → length c.workers < 1024 → fits (length c.nodes) (length c.workers + 0) made ≡ true
-    → is_within made (worker_does_by c w (act_step a) o).whole ≡ true
-room_by c made w a None l e = as_it_is c made ∙ e
-room_by c made w a (Some x) l e = room_at c made w x a (node_at c x.node) l e
+room_by : (c : ClusterState) (made w : ℕ) (sent : List Envelope) (a : Act) (o : Option Worker) → length c.workers < 1024 → fits (length c.nodes) (length c.workers + 0) made ≡ true
+    → is_within made (worker_does_by c w (act_step sent a) o).whole ≡ true
+room_by c made w sent a None l e = as_it_is c made ∙ e
+room_by c made w sent a (Some x) l e = room_at c made w x sent a (node_at c x.node) l e
 
-pub room : (c : ClusterState) (made w : ℕ) (a : Act) → length c.workers < 1024 → fits (length c.nodes) (length c.workers + 0) made ≡ true
-    → is_within made (worker_does c w (act_step a)).whole ≡ true
-room c made w a l e = room_by c made w a (worker_at c w) l e
+pub room : (c : ClusterState) (made w : ℕ) (sent : List Envelope) (a : Act) → length c.workers < 1024 → fits (length c.nodes) (length c.workers + 0) made ≡ true
+    → is_within made (worker_does c w (act_step sent a)).whole ≡ true
+room c made w sent a l e = room_by c made w sent a (worker_at c w) l e

@@ -15,8 +15,15 @@ use boxed_value::Boxed;
 use cluster_steps::{enter, exchange, leave, log_nothing, node_place, worker_place};
 use ids::{NodeId, WorkerId};
 use protocol_data::{ClusterState, Node, Worker, WorkerContext};
+use refusals::{is_ready_run, job_out};
 use std::alloc::{AllocError, Global};
 use worker_acts::{Act, take_part};
+
+/// Whether the worker has something to claim or to commit, but for a slot that it may lack.
+#[inline(always)]
+fn may_go(worker: &Worker) -> bool {
+    is_ready_run(&worker.run) || job_out(worker).is_some()
+}
 
 /// The worker of that number does its part in an event, in the context, in which the entries that this adds are left.
 pub fn act(
@@ -26,8 +33,8 @@ pub fn act(
     number: WorkerId,
     what: &Act,
 ) -> Result<(), AllocError>
-    ensures whole { OnOk result (whole.new ≡ (worker_does whole.old number (act_step what.now)).whole) }
-    ensures entries { OnOk result (here.new.there.out.entries ≡ (worker_does whole.old number (act_step what.now)).out.entries) }
+    ensures whole { OnOk result (whole.new ≡ (worker_does whole.old number (act_step whole.old.network what.now)).whole) }
+    ensures entries { OnOk result (here.new.there.out.entries ≡ (worker_does whole.old number (act_step whole.old.network what.now)).out.entries) }
 {
     let Some(place) = worker_place(whole, number) else {
         log_nothing(&mut here.there);
@@ -39,8 +46,9 @@ pub fn act(
         return Ok(());
     };
     enter(whole, place, node_place, number, node, here);
-    take_part(alloc, here, what)?;
-    leave(alloc, whole, place, node_place, number, node, here)
+    let went = may_go(&here.worker);
+    take_part(alloc, here, &whole.network, what)?;
+    leave(alloc, whole, place, node_place, number, node, here, went)
 }
 
 /// A worker and its node as they were.
@@ -100,6 +108,7 @@ fn put_within(
     here: &mut WorkerContext,
     kept: Kept,
     made: u64,
+    went: bool,
 ) -> Result<bool, AllocError>
     requires place_in { place < length whole.old.workers }
     requires number { number ≡ 1 + place }
@@ -111,7 +120,7 @@ fn put_within(
 {
     if fits(whole, u64::from(here.there.opened), made) {
         drop(kept);
-        leave(alloc, whole, place, node_place, number, node, here)?;
+        leave(alloc, whole, place, node_place, number, node, here, went)?;
         return Ok(true);
     }
     exchange(whole, place, node_place, here);
@@ -130,9 +139,9 @@ pub fn act_or_restore(
     what: &Act,
     made: u64,
 ) -> Result<bool, AllocError>
-    ensures whole { OnOk result (whole.new ≡ whole_within made whole.old (worker_does whole.old number (act_step what.now))) }
+    ensures whole { OnOk result (whole.new ≡ whole_within made whole.old (worker_does whole.old number (act_step whole.old.network what.now))) }
     ensures entries { IfOk result (λ taken. if_taken taken here.new.there.out.entries
-        ≡ entries_within made (worker_does whole.old number (act_step what.now))) }
+        ≡ entries_within made (worker_does whole.old number (act_step whole.old.network what.now))) }
 {
     let Some(place) = worker_place(whole, number) else {
         return Ok(nothing(whole, &mut here.there, made));
@@ -143,9 +152,10 @@ pub fn act_or_restore(
     };
     let kept = keep(alloc, whole, place, node_place)?;
     enter(whole, place, node_place, number, node, here);
-    match take_part(alloc, here, what) {
+    let went = may_go(&here.worker);
+    match take_part(alloc, here, &whole.network, what) {
         Ok(()) => put_within(
-            alloc, whole, place, node_place, number, node, here, kept, made,
+            alloc, whole, place, node_place, number, node, here, kept, made, went,
         ),
         Err(error) => {
             drop(kept);

@@ -1,79 +1,48 @@
 // Deliveries as changes of the whole run: a message reaches its receiver, if that lives.
 
-ghost use Rattle.std.specs.Prelude.{◌≡◌, IfOk, OnOk};
+ghost use Rattle.std.specs.Prelude.{◌≡◌, IfOk, OnOk, Some};
 ghost use Rattle.step_laws.specs.Later.{marked};
 ghost use Rattle.step_laws.specs.Limits.{entries_limited, whole_limited};
 ghost use Rattle.cluster_events.specs.Told.{if_taken};
 ghost use Rattle.protocol.specs.Events.{delivered, delivered_to};
+ghost use Rattle.protocol.specs.Messages.{Envelope};
+ghost use Rattle.protocol.specs.Numbered.{item_at};
 
 use crate::counting::nothing;
 use crate::node_events::deliver_to_node_within;
 use crate::within_limits::let_act;
 use number_lists::{item_at_number, place_of};
-use protocol_data::{ClusterState, Endpoint, Envelope, Message, WorkerContext};
+use protocol_data::{ClusterState, Endpoint, WorkerContext};
 use refusals::{is_live_node, is_live_worker};
 use std::alloc::{AllocError, Global};
 use worker_acts::Act;
 
-/// An equal envelope.
-fn copy_envelope(alloc: Global, envelope: &Envelope) -> Result<Envelope, AllocError>
-    ensures { IfOk result (λ l. l ≡ envelope.now) }
-{
-    let message = envelope.message.copy(alloc)?;
-    let sender = copy_endpoint(&envelope.sender);
-    let receiver = copy_endpoint(&envelope.receiver);
-    Ok(Envelope {
-        sender,
-        receiver,
-        message,
-    })
-}
-
-fn copy_endpoint(endpoint: &Endpoint) -> Endpoint
-    ensures { result ≡ endpoint.now }
-{
-    match endpoint {
-        Endpoint::TheWorker(worker) => Endpoint::TheWorker(*worker),
-        Endpoint::TheNode(node) => Endpoint::TheNode(*node),
-    }
-}
-
-/// The envelope reaches its receiver; nothing happens where that is dead.
+/// The message of that number reaches that receiver, which is its own; nothing happens where that is dead. The message is read where it stands.
 fn hand_over(
     alloc: Global,
     whole: &mut ClusterState,
     here: &mut WorkerContext,
-    envelope: Envelope,
+    number: u64,
+    receiver: Endpoint,
 ) -> Result<bool, AllocError>
-    ensures whole { OnOk result (whole.new ≡ whole_limited whole.old (delivered_to whole.old envelope envelope.receiver)) }
-    ensures entries { IfOk result (λ taken. if_taken taken here.new.there.out.entries
-        ≡ entries_limited (delivered_to whole.old envelope envelope.receiver)) }
+    ensures whole { (l : Envelope) → item_at whole.old.network number ≡ Some l →
+        OnOk result (whole.new ≡ whole_limited whole.old (delivered_to whole.old l receiver)) }
+    ensures entries { (l : Envelope) → item_at whole.old.network number ≡ Some l →
+        IfOk result (λ taken. if_taken taken here.new.there.out.entries ≡ entries_limited (delivered_to whole.old l receiver)) }
 {
-    let Envelope {
-        sender,
-        receiver,
-        message,
-    } = envelope;
     let made = whole.made;
     match receiver {
         Endpoint::TheWorker(worker) => {
             if !is_live_worker(whole, worker) {
                 return Ok(nothing(whole, &mut here.there, made));
             }
-            let_act(
-                alloc,
-                whole,
-                here,
-                worker,
-                &Act::Receive(sender, message),
-                made,
-            )
+            let_act(alloc, whole, here, worker, &Act::Receive(number), made)
         }
         Endpoint::TheNode(node) => {
             if !is_live_node(whole, node) {
                 return Ok(nothing(whole, &mut here.there, made));
             }
-            deliver_to_node_within(alloc, whole, &mut here.there, node, sender, &message)
+            deliver_to_node_within(alloc, whole, &mut here.there, node, number)
         }
     }
 }
@@ -102,11 +71,11 @@ pub fn deliver(
     let Some(envelope) = item_at_number(&whole.network, number) else {
         return Ok(nothing(whole, &mut here.there, whole.made));
     };
-    let envelope = copy_envelope(alloc, envelope)?;
+    let receiver = envelope.receiver;
     let Some(place) = place_of(number, whole.delivered.len()) else {
-        return hand_over(alloc, whole, here, envelope);
+        return hand_over(alloc, whole, here, number, receiver);
     };
-    if !hand_over(alloc, whole, here, envelope)? {
+    if !hand_over(alloc, whole, here, number, receiver)? {
         return Ok(false);
     }
     mark(whole, place);

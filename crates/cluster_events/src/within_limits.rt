@@ -23,9 +23,9 @@ pub fn let_act(
     what: &Act,
     made: u64,
 ) -> Result<bool, AllocError>
-    ensures whole { OnOk result (whole.new ≡ whole_within made whole.old (worker_does whole.old number (act_step what.now))) }
+    ensures whole { OnOk result (whole.new ≡ whole_within made whole.old (worker_does whole.old number (act_step whole.old.network what.now))) }
     ensures entries { IfOk result (λ taken. if_taken taken here.new.there.out.entries
-        ≡ entries_within made (worker_does whole.old number (act_step what.now))) }
+        ≡ entries_within made (worker_does whole.old number (act_step whole.old.network what.now))) }
 {
     if !fits(whole, 0, made) {
         return Ok(false);
@@ -46,8 +46,9 @@ pub fn let_worker_act(
     number: WorkerId,
     what: &Act,
 ) -> Result<bool, AllocError>
-    ensures whole { OnOk result (whole.new ≡ whole_limited whole.old (worker_does whole.old number (act_step what.now))) }
-    ensures entries { IfOk result (λ taken. if_taken taken here.new.there.out.entries ≡ entries_limited (worker_does whole.old number (act_step what.now))) }
+    ensures whole { OnOk result (whole.new ≡ whole_limited whole.old (worker_does whole.old number (act_step whole.old.network what.now))) }
+    ensures entries { IfOk result (λ taken. if_taken taken here.new.there.out.entries
+        ≡ entries_limited (worker_does whole.old number (act_step whole.old.network what.now))) }
 {
     let made = whole.made;
     let_act(alloc, whole, here, number, what, made)

@@ -1,34 +1,54 @@
 // What a node does in a whole run: taken out, told or handed a message, and put back.
 
 ghost use Rattle.std.specs.Prelude.{◌≡◌, OnOk};
-ghost use Rattle.protocol.specs.Slots.{forgets, node_reached};
+ghost use Rattle.protocol.specs.Slots.{forgets};
 ghost use Rattle.protocol.specs.Cluster.{node_does};
+ghost use Rattle.protocol.specs.Numbered.{item_at};
+ghost use Rattle.cluster_steps.specs.Reached.{node_received};
 
 use crate::put_back::leave_node;
 use crate::take_out::{enter_node, log_nothing, node_place};
 use ids::{NodeId, WorkerId};
 use lease::{killed, node_reached};
-use protocol_data::{ClusterState, Endpoint, Message, NodeContext};
+use number_lists::item_at_number;
+use protocol_data::{ClusterState, Envelope, NodeContext};
+use sequence::Seq;
 use std::alloc::{AllocError, Global};
 
-/// A message reaches the node of that number. The entries that it adds are left in the context.
+/// The message of that number, if one of these has it, reaches the node.
+fn receive(
+    alloc: Global,
+    context: &mut NodeContext,
+    sent: &Seq<Envelope>,
+    message: u64,
+) -> Result<(), AllocError>
+    ensures { OnOk result (context.new ≡ node_received context.old (item_at sent.now message)) }
+{
+    let Some(envelope) = item_at_number(sent, message) else {
+        return Ok(());
+    };
+    node_reached(alloc, context, envelope.sender, &envelope.message)
+}
+
+/// The message of that number, if one was sent that has it, reaches the node of the other. It is read where it stands. The entries that it adds are left
+/// in the context.
 pub fn deliver_to_node(
     alloc: Global,
     whole: &mut ClusterState,
     context: &mut NodeContext,
     number: NodeId,
-    sender: Endpoint,
-    message: &Message,
+    message: u64,
 ) -> Result<(), AllocError>
-    ensures whole { OnOk result (whole.new ≡ (node_does whole.old number (λ h. node_reached h sender message.now)).whole) }
-    ensures entries { OnOk result (context.new.out.entries ≡ (node_does whole.old number (λ h. node_reached h sender message.now)).out.entries) }
+    ensures whole { OnOk result (whole.new ≡ (node_does whole.old number (λ h. node_received h (item_at whole.old.network message))).whole) }
+    ensures entries { OnOk result (context.new.out.entries
+        ≡ (node_does whole.old number (λ h. node_received h (item_at whole.old.network message))).out.entries) }
 {
     let Some(place) = node_place(whole, number) else {
         log_nothing(context);
         return Ok(());
     };
     enter_node(whole, place, number, context);
-    node_reached(alloc, context, sender, message)?;
+    receive(alloc, context, &whole.network, message)?;
     leave_node(alloc, whole, place, number, context)
 }
 

@@ -60,15 +60,23 @@ fn put_over<T>(items: &mut Seq<T>, place: usize, number: u64, item: &mut T)
     lay(items, place, item);
 }
 
-/// The worker changes places with the one of that number.
+/// The worker changes places with the one of that number. If it went, it is looked at whether it goes on.
 #[inline(always)]
-fn put_worker_over(workers: &mut Workers, place: usize, number: u64, worker: &mut Boxed<Worker>)
+fn put_worker_over(
+    workers: &mut Workers,
+    place: usize,
+    number: u64,
+    worker: &mut Boxed<Worker>,
+    went: bool,
+)
     requires place_in { place < length workers.old }
     requires number { number ≡ 1 + place }
     ensures { workers.new ≡ changed_at workers.old number (λ _. worker.old) }
 {
     workers.exchange(place, worker);
-    workers.settle(place);
+    if went {
+        workers.settle(place);
+    }
 }
 
 /// The node at that place is put back, with what it made, but for the entries: these are left in the context, in which what stood in the node's place
@@ -99,7 +107,7 @@ pub fn leave_node(
 }
 
 /// The worker and its node are put back, with what they made, but for the entries: these are left in the context, in which what stood in their places
-/// is again.
+/// is again. Whether the worker had something to claim or to commit as it came (`went`) is for the index of those that have, and changes nothing else.
 #[inline(always)]
 pub fn leave(
     alloc: Global,
@@ -109,6 +117,7 @@ pub fn leave(
     number: WorkerId,
     node: NodeId,
     here: &mut WorkerContext,
+    went: bool,
 ) -> Result<(), AllocError>
     requires place_in { place < length whole.old.workers }
     requires number { number ≡ 1 + place }
@@ -122,6 +131,7 @@ pub fn leave(
         place,
         u64::from(number.0),
         &mut here.worker,
+        went,
     );
     leave_node(alloc, whole, node_place, node, &mut here.there)
 }

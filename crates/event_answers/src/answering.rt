@@ -14,6 +14,7 @@ use std::alloc::{AllocError, Global};
 
 /// One event of the whole run, with what is handed in. It is refused, and nothing changes; or it is taken. What comes of it in the log, behind the event
 /// itself, is left in the context: its entries, or its refusal. After an error, which is want of memory or of a number, nothing is said of the whole.
+#[inline(always)]
 pub fn answer(
     alloc: Global,
     whole: &mut ClusterState,

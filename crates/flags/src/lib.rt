@@ -127,7 +127,7 @@ impl Flags {
         ensures { self.new ≡ self.old }
     {
         let block = place / FLAGS_OF_A_BLOCK;
-        if block < self.blocks.len() && !is_any_up(&self.flags, place) {
+        if block < self.blocks.len() && *self.blocks.get(block) && !is_any_up(&self.flags, place) {
             self.blocks.set(block, false);
         }
     }

@@ -32,6 +32,7 @@ fn taken<S: ScriptName>(told: Reply<S>) -> Result<(), Refusal>
 }
 
 /// One event, with what was done on a job of this run. Where there is no room for how many messages there are behind it, it isn't applied.
+#[inline(always)]
 fn go<S: ScriptName>(
     alloc: Global,
     board: &mut Board<S>,
@@ -54,6 +55,7 @@ fn go<S: ScriptName>(
 }
 
 /// The job is run, and what was done on it is committed.
+#[inline(never)]
 fn commit<S: ScriptName>(
     alloc: Global,
     board: &mut Board<S>,
@@ -83,6 +85,7 @@ fn commit<S: ScriptName>(
 }
 
 /// One turn: the event is applied, and where it gives out a job, that is run, and what was done on it is committed.
+#[inline(always)]
 fn take_turn<S: ScriptName>(
     alloc: Global,
     board: &mut Board<S>,

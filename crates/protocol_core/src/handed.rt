@@ -1,6 +1,7 @@
 // What is handed in with an event.
 
-ghost use Rattle.std.specs.Prelude.{◌≡◌, IfOk, IfSome, true};
+ghost use Rattle.std.specs.Prelude.{◌≡◌, IfOk, IfSome, OnOk, true};
+ghost use Rattle.protocol.specs.Jobs.{Nothing};
 ghost use Rattle.protocol.specs.Tables.{Out};
 ghost use Rattle.segment.specs.Jobs.{IsTrueOf};
 ghost use Rattle.protocol_core.specs.Own.{HasAnswersIn, HaveAnswersIn};
@@ -99,24 +100,29 @@ fn discard<S: ScriptName>(done: Option<Done<S>>)
     }
 }
 
-/// What is handed in with the event. With `is_own` what was done is done on a job of this run.
-pub fn handed_with<S: ScriptName>(
+/// Puts what is handed in with the event where nothing was. With `is_own` what was done is done on a job of this run.
+pub fn hand_in<S: ScriptName>(
     alloc: Global,
     whole: &ClusterState,
     event: &Event,
     done: Option<Done<S>>,
     is_own: bool,
-) -> Result<CommitInput, AllocError>
+    handed: &mut CommitInput,
+) -> Result<(), AllocError>
     requires pace { AreInPace S.script whole.now }
     requires own { is_own ≡ true → HaveAnswersIn whole.now done }
-    ensures handed { IfOk result (λ handed. IsHanded whole.now event.now done handed) }
+    requires empty { handed.old ≡ Nothing }
+    ensures handed { OnOk result (IsHanded whole.now event.now done handed.new) }
     ensures is_true { IfSome done (λ d. IsTrueOf S.script d) }
 {
     match event {
-        Event::Commit(job) => handed_for(alloc, whole, *job, done, is_own),
+        Event::Commit(job) => {
+            *handed = handed_for(alloc, whole, *job, done, is_own)?;
+            Ok(())
+        }
         _ => {
             discard(done);
-            Ok(CommitInput::Nothing)
+            Ok(())
         }
     }
 }

@@ -18,6 +18,9 @@ use worker_steps::main_attempt;
 /// How many messages a run has room for from its start: as many as make a list that isn't copied where it grows, as the log's entries do.
 const MESSAGES: usize = 2048;
 
+/// How many objects main's worker has room for from its start, for the same reason.
+const OBJECTS: usize = 1024;
+
 /// So many nodes with so many slots each.
 fn first_nodes(alloc: Global, nodes: u8, slots: u32) -> Result<Seq<Boxed<Node>>, AllocError>
     ensures { IfOk result (λ all. all ≡ new_nodes nodes slots) }
@@ -85,10 +88,12 @@ fn driver(alloc: Global) -> Result<Worker, AllocError>
     let mut began = Attempts::new(alloc);
     began.push(main_attempt())?;
     let run = main_run(alloc)?;
+    let mut objects = Objects::new(alloc);
+    objects.reserve(OBJECTS)?;
     Ok(Worker {
         node: NodeId(1),
         is_live: true,
-        objects: Objects::new(alloc),
+        objects,
         run: Some(run),
         began,
         passed_on: Seq::new(alloc),

@@ -12,12 +12,13 @@ ghost use Rattle.protocol_core.specs.Steps.{Answers, AnswersAsShown, Applies, Fo
 ghost use Rattle.protocol_core.specs.Views.{state_of};
 
 use crate::cursor::cursor_behind;
-use crate::handed::handed_with;
+use crate::handed::hand_in;
 use crate::reply::Reply;
 use crate::state::State;
 use event_answers::{Verdict, answer};
 use log_entries::{Entry, Event, Refusal};
 use meaning_laws::law::{legal_logs_read_as_serial, main_begins_the_serial_run};
+use protocol_data::CommitInput;
 use protocol_laws::law::{
     claims_give_good_jobs, claims_give_jobs_of_the_log, event_keeps_sound, jobs_stay_of_the_log,
     refusals_are_as_shown, runs_are_good, runs_have_the_logs_answers, sound_is_legal,
@@ -61,7 +62,8 @@ fn try_step<S: ScriptName>(
     runs_are_good();
     runs_have_the_logs_answers();
     sound_is_legal();
-    let mut handed = handed_with(alloc, &state.whole, &event, done, is_own)?;
+    let mut handed = CommitInput::Nothing;
+    hand_in(alloc, &state.whole, &event, done, is_own, &mut handed)?;
     let verdict = answer(
         alloc,
         &mut state.whole,

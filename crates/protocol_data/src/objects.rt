@@ -55,6 +55,13 @@ impl Objects {
         }
     }
 
+    /// Makes room for so many more. On an error, which is want of memory, the list is as it was too.
+    pub fn reserve(&mut self, more: usize) -> Result<(), AllocError>
+        ensures { self.new ≡ self.old }
+    {
+        self.rows.reserve(more)
+    }
+
     /// How many objects there are, which is less than 2^63.
     pub fn len(&self) -> usize
         ensures len { result ≡ length self.now }

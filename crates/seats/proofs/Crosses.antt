@@ -9,7 +9,9 @@ use Rattle.std.proofs.marker.PhantomData.TheSendSync as phantom
 use Rattle.std.specs.declared.sync.ledger.Ledger as ledger
 use Rattle.sequence.specs.contracts.Seq as Seq
 use Rattle.values.proofs.value.RunValue.TheLaws.TheKnot as value
+use Rattle.held.specs.contracts.births.Births as Births
 use Rattle.held.specs.contracts.content.SharedContent as SharedContent
+use Rattle.held.specs.contracts.prints.Prints as Prints
 use Rattle.held.specs.contracts.shared_birth.SharedBirth as SharedBirth
 use Rattle.held.specs.contracts.printed.Printed as Printed
 use Rattle.ids.specs.contracts.node.NodeId as NodeId
@@ -74,6 +76,12 @@ birth_send = search (value.crosses, crosses, sendable) depth 60 fits 20000
 printed_send : IsSend Printed.the_row
 printed_send = search (value.crosses, crosses, sendable) depth 60 fits 20000
 
+births_send : IsSend Births.the_row
+births_send = search (value.crosses, crosses, sendable) depth 60 fits 20000
+
+prints_send : IsSend Prints.the_row
+prints_send = search (value.crosses, crosses, sendable) depth 60 fits 20000
+
 key_send : IsSend CopyKey.the_row
 key_send = search (object.the_send, crosses, sendable) depth 60 fits 20000
 
@@ -104,7 +112,7 @@ node_send : IsSend Node.the_field.row
 node_send = search (content_send, secondaries_send, value.crosses, crosses, sendable) depth 60 fits 20000
 
 worker_send : IsSend Worker.the_field.row
-worker_send = search (content_send, birth_send, table_send, value.crosses, crosses, sendable) depth 60 fits 20000
+worker_send = search (births_send, prints_send, content_send, birth_send, table_send, value.crosses, crosses, sendable) depth 60 fits 20000
 
 objects_send : IsSend (Seq.the_row ObjectId.the_row)
 objects_send = search (object.the_send, crosses, sendable) depth 60 fits 20000

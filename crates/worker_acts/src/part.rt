@@ -2,14 +2,17 @@
 
 ghost use Rattle.std.specs.Prelude.{◌≡◌, OnOk};
 ghost use Rattle.protocol.specs.Releases.{release_step};
-ghost use Rattle.worker_acts.specs.Acts.{act_step};
+ghost use Rattle.protocol.specs.Numbered.{item_at};
+ghost use Rattle.worker_acts.specs.Acts.{act_step, received};
 
 use crate::messages::reached;
 use crate::ticks::tick_step;
 use commit_steps::{claim_step, commit_step};
 use death_steps::{notice_node_step, notice_step};
 use ids::{NodeId, WorkerId};
-use protocol_data::{Endpoint, Message, Outcomes, WorkerContext};
+use number_lists::item_at_number;
+use protocol_data::{Envelope, Outcomes, WorkerContext};
+use sequence::Seq;
 use std::alloc::{AllocError, Global};
 use worker_steps::release_all;
 
@@ -20,8 +23,8 @@ pub enum Act {
     Claim(u64),
     /// What was done on its attempt's job is committed.
     Commit(Outcomes),
-    /// A message of that sender reaches it.
-    Receive(Endpoint, Message),
+    /// The message of that number reaches it, if one was sent that has it.
+    Receive(u64),
     /// It sends again what it waits for.
     Tick,
     /// It is told that this worker is dead.
@@ -30,9 +33,29 @@ pub enum Act {
     LearnNodeDied(NodeId),
 }
 
-/// The worker's step alone.
-fn step(alloc: Global, here: &mut WorkerContext, act: &Act) -> Result<(), AllocError>
-    ensures { OnOk result (here.new ≡ act_step act.now here.old) }
+/// The message of that number, if there is one, reaches the worker.
+fn receive(
+    alloc: Global,
+    here: &mut WorkerContext,
+    sent: &Seq<Envelope>,
+    number: u64,
+) -> Result<(), AllocError>
+    ensures { OnOk result (here.new ≡ received here.old (item_at sent.now number)) }
+{
+    let Some(envelope) = item_at_number(sent, number) else {
+        return Ok(());
+    };
+    reached(alloc, here, &envelope.sender, &envelope.message)
+}
+
+/// The worker's step alone, where these messages were sent so far.
+fn step(
+    alloc: Global,
+    here: &mut WorkerContext,
+    sent: &Seq<Envelope>,
+    act: &Act,
+) -> Result<(), AllocError>
+    ensures { OnOk result (here.new ≡ act_step sent.now act.now here.old) }
 {
     match act {
         Act::Claim(job) => {
@@ -40,17 +63,23 @@ fn step(alloc: Global, here: &mut WorkerContext, act: &Act) -> Result<(), AllocE
             Ok(())
         }
         Act::Commit(outcomes) => commit_step(alloc, here, outcomes),
-        Act::Receive(sender, message) => reached(alloc, here, sender, message),
+        Act::Receive(number) => receive(alloc, here, sent, *number),
         Act::Tick => tick_step(alloc, here),
         Act::LearnWorkerDied(worker) => notice_step(alloc, here, *worker),
         Act::LearnNodeDied(node) => notice_node_step(alloc, here, *node),
     }
 }
 
-/// The worker does its step, and then releases what no one can reach any more. After an error nothing is said of its tables.
-pub fn take_part(alloc: Global, here: &mut WorkerContext, act: &Act) -> Result<(), AllocError>
-    ensures { OnOk result (here.new ≡ release_step (act_step act.now here.old)) }
+/// The worker does its step, where these messages were sent so far, and then releases what no one can reach any more. A message is read where it stands.
+/// After an error nothing is said of the worker's tables.
+pub fn take_part(
+    alloc: Global,
+    here: &mut WorkerContext,
+    sent: &Seq<Envelope>,
+    act: &Act,
+) -> Result<(), AllocError>
+    ensures { OnOk result (here.new ≡ release_step (act_step sent.now act.now here.old)) }
 {
-    step(alloc, here, act)?;
+    step(alloc, here, sent, act)?;
     release_all(alloc, here)
 }

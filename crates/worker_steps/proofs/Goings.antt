@@ -1,6 +1,6 @@
 -- What goes with an object that is released.
 use Rattle.std.proofs.Common.{◌≡◌, ℕ, zero, suc, ◌+◌, ◌-◌, ◌<◌, ◌≤◌, List, [], ◌∷◌, Bool, true, false, Some, refl, sym, ap, ◌∙◌, append-nil, append_assoc, arith}
-use Rattle.std.specs.Prelude.{if◌then◌else◌, ◌&&◌, ◌++◌, map, not}
+use Rattle.std.specs.Prelude.{if◌then◌else◌, ◌&&◌, map, not}
 use Rattle.meaning.specs.Runs.{ids_from}
 use Rattle.event_log.specs.Entries.{Entry, Released}
 use Rattle.protocol.specs.Numbered.{item_at}

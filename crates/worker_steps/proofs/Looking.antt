@@ -1,15 +1,16 @@
 -- A search for what can be released may pass over what the index says.
-use Rattle.std.proofs.Common.{◌≡◌, ℕ, ◌+◌, ◌-◌, ◌<◌, ◌≤◌, ◌⊎◌, inl, inr, Bool, true, false, Option, Some, None, zero, suc, refl, sym, ap, ◌∙◌, arith}
-use Rattle.std.specs.Prelude.{not, ◌&&◌, ◌||◌, if◌then◌else◌, slice_get, is_some}
+use Rattle.std.proofs.Common.{◌≡◌, ℕ, ◌+◌, ◌-◌, ◌<◌, ◌≤◌, ◌⊎◌, inl, inr, Bool, true, false, Option, Some, None, zero, suc, length, refl, sym, ap, ◌∙◌, arith}
+use Rattle.std.specs.Prelude.{not, ◌==◌, ◌&&◌, ◌||◌, if◌then◌else◌, slice_get, is_some}
+use Rattle.std.proofs.lemmas.Bool.Decides.{nat_tests}
 use Rattle.event_log.specs.Words.{same_attempt}
 use Rattle.protocol_data.specs.Unneeded.{AllStay, is_awaited, is_borne_by, stays}
 use Rattle.protocol.specs.Numbered.{item_at}
-use Rattle.protocol.specs.Releases.{are_unneeded, going_with, is_unneeded_at, may_release, releases_by}
-use Rattle.protocol.specs.Steps.{WorkerContext, each_from, own_id, own_object}
+use Rattle.protocol.specs.Releases.{are_unneeded, entries_made, going_with, is_unneeded_at, may_release, release_pass, release_passes, release_step, releases_by}
+use Rattle.protocol.specs.Steps.{WorkerContext, each_from, own_object}
 use Rattle.protocol.specs.Tables.{AskedAt, AtRest, Beside, ByTask, ObjectSource, Object, Execution, RunsOn, WasPut, Worker, is_bearer_over, is_going_on, is_held, is_pending_by, is_under_way, Progress, task_in}
 use Rattle.meaning.specs.Values.{others_of}
 use Rattle.protocol_data.specs.Unneeded.{is_under_way as is_on_its_way}
-use Rattle.worker_steps.proofs.EachLaws.{each_step}
+use Rattle.worker_steps.proofs.EachLaws.{each_step, pass_last}
 use Rattle.worker_steps.proofs.Goings.{none_released, stays_held}
 use Rattle.worker_steps.specs.Looking.{NoneGoes, attempt_going_on}
 
@@ -130,3 +131,13 @@ one_released h g n p q last le quiet less new so_far =
     ∙ sym (each_step release_at h (q + 1) n q less)
     ∙ sym (passed_over h n p q le quiet)
     ∙ so_far
+
+-- where nothing at all may be released
+pub nothing_released : (h : WorkerContext) (q : ℕ) → length h.worker.objects ≤ q → NoneGoes h.worker 0 q → release_step h ≡ h
+nothing_released h q past quiet =
+    let n = length h.worker.objects in
+    let all : n ≡ n - 0 = omega arith in
+    let still : release_pass h ≡ h = ap (each_from (λ g k. releases_by g k (own_object g k)) h 1) all ∙ passed_all h n 0 q (omega arith) past quiet in
+    let same : (entries_made h == entries_made h) ≡ true = grind (arith, nat_tests) in
+    let turns : n + 1 ≡ n + 1 - 0 = omega arith in
+    ap (λ m. release_passes false m h) turns ∙ pass_last h n 0 (omega arith) (ap (λ g. entries_made g == entries_made h) still ∙ same) ∙ still

@@ -1,4 +1,5 @@
 use Rattle.std.proofs.Common.{◌≡◌, OnOk, Some, ap, sym, ◌∙◌, subst}
+use Rattle.protocol.specs.Releases.{release_step}
 use Rattle.protocol.specs.Steps.{WorkerContext}
 use Rattle.cluster_steps.proofs.Returns.{taken_here, worker_done}
 use Rattle.worker_acts.specs.Acts.{act_step}
@@ -9,7 +10,7 @@ pub returns-clause-whole : goal.returns-clause-whole
 returns-clause-whole c =
     let old = c.args.whole.now in
     let stood = c.get.ensures ∙ ap Some (sym c.deref.ensures) in
-    let f : WorkerContext → WorkerContext = act_step c.args.what.now in
+    let f : WorkerContext → WorkerContext = act_step c.args.whole.now.network c.args.what.now in
     let t = c.enter in
     let there = c.in-Some.ensures.found in
     let beside = c.in-Some-node_place.ensures.found in
@@ -19,14 +20,14 @@ returns-clause-whole c =
     subst (λ m. OnOk c.leave.result (c.leave.new.whole ≡ m.whole))
     (worker_done old t.new.whole c.in-Some.place c.in-Some-node_place.node_place c.args.number c.args.here.now.worker c.deref.result.now c.args.here.now.there.node
     t.new.here.there.node f t.new.here c.take_part.new.here there.1 there.0 beside.1 beside.0 t.ensures.left stood t.ensures.node_taken begun
-    c.in_ok-take_part.ensures)
+    (c.in_ok-take_part.ensures ∙ ap (λ m. release_step (act_step m.network c.args.what.now t.new.here)) t.ensures.left))
     c.leave.ensures.whole
 
 pub returns-clause-entries : goal.returns-clause-entries
 returns-clause-entries c =
     let old = c.args.whole.now in
     let stood = c.get.ensures ∙ ap Some (sym c.deref.ensures) in
-    let f : WorkerContext → WorkerContext = act_step c.args.what.now in
+    let f : WorkerContext → WorkerContext = act_step c.args.whole.now.network c.args.what.now in
     let t = c.enter in
     let there = c.in-Some.ensures.found in
     let beside = c.in-Some-node_place.ensures.found in
@@ -36,5 +37,5 @@ returns-clause-entries c =
     subst (λ m. OnOk c.leave.result (c.leave.new.here.there.out.entries ≡ m.out.entries))
     (worker_done old t.new.whole c.in-Some.place c.in-Some-node_place.node_place c.args.number c.args.here.now.worker c.deref.result.now c.args.here.now.there.node
     t.new.here.there.node f t.new.here c.take_part.new.here there.1 there.0 beside.1 beside.0 t.ensures.left stood t.ensures.node_taken begun
-    c.in_ok-take_part.ensures)
+    (c.in_ok-take_part.ensures ∙ ap (λ m. release_step (act_step m.network c.args.what.now t.new.here)) t.ensures.left))
     c.leave.ensures.entries

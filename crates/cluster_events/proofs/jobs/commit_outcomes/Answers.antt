@@ -38,3 +38,13 @@ returns-then-not-branch-clause-whole c =
     let sum : made ≡ old.made + objects_made c.args.outcomes.births = c.in-Some-with_made.ensures.sum in
     committed_not_noted old c.let_act.new.whole c.args.job made c.args.outcomes g there sum c.in_ok-let_act.ensures.whole
     (sym c.in_ok-let_act.ensures.entries ∙ ap (λ b. if_taken b c.let_act.new.here.there.out.entries) c.if-not-branch.true)
+
+pub returns-then-not-branch-clause-entries : goal.returns-then-not-branch-clause-entries
+returns-then-not-branch-clause-entries c =
+    let old = c.args.whole.now in
+    let g = c.get.result.now in
+    let made = c.in-Some-with_made.made in
+    let there = item_there old.jobs c.in-Some.place c.args.job g c.in-Some.ensures.found.0 c.get.ensures in
+    let sum : made ≡ old.made + objects_made c.args.outcomes.births = c.in-Some-with_made.ensures.sum in
+    sym (ap (λ b. if_taken b c.let_act.new.here.there.out.entries) c.if-not-branch.true) ∙ c.in_ok-let_act.ensures.entries
+    ∙ sym (committed_entries old c.args.job made c.args.outcomes g there sum)

@@ -10,12 +10,12 @@ pub returns-then-len-lt1024-clause-whole : goal.returns-then-len-lt1024-clause-w
 returns-then-len-lt1024-clause-whole c =
     let old = c.args.whole.now in
     let less : length old.workers < 1024 = grind (arith, nat_tests, c.if-len-lt1024.true, c.len.ensures) in
-    let e = room old c.args.made c.args.number c.args.what.now less (sym c.if-not-fits.ensures) in
-    c.in_ok-act.ensures.whole ∙ sym (taken_whole old c.args.made (worker_does old c.args.number (act_step c.args.what.now)) e)
+    let e = room old c.args.made c.args.number old.network c.args.what.now less (sym c.if-not-fits.ensures) in
+    c.in_ok-act.ensures.whole ∙ sym (taken_whole old c.args.made (worker_does old c.args.number (act_step c.args.whole.now.network c.args.what.now)) e)
 
 pub returns-then-len-lt1024-clause-entries : goal.returns-then-len-lt1024-clause-entries
 returns-then-len-lt1024-clause-entries c =
     let old = c.args.whole.now in
     let less : length old.workers < 1024 = grind (arith, nat_tests, c.if-len-lt1024.true, c.len.ensures) in
-    let e = room old c.args.made c.args.number c.args.what.now less (sym c.if-not-fits.ensures) in
-    ap Some c.in_ok-act.ensures.entries ∙ sym (taken_entries c.args.made (worker_does old c.args.number (act_step c.args.what.now)) e)
+    let e = room old c.args.made c.args.number old.network c.args.what.now less (sym c.if-not-fits.ensures) in
+    ap Some c.in_ok-act.ensures.entries ∙ sym (taken_entries c.args.made (worker_does old c.args.number (act_step c.args.whole.now.network c.args.what.now)) e)

@@ -10,13 +10,13 @@ use Rattle.protocol_core.proofs.Jobs.{have_answers, in_pace}
 use Rattle.protocol_core.proofs.Kept.{came, applies, kept_behind, begun_behind, own_behind, tells_job}
 use Rattle.protocol_core.proofs.steps.try_step.Goals as goal
 
-pub handed_with-requires-clause-pace : goal.handed_with-requires-clause-pace
-handed_with-requires-clause-pace g c =
+pub hand_in-requires-clause-pace : goal.hand_in-requires-clause-pace
+hand_in-requires-clause-pace g c =
     in_pace g.S.ScriptName.script (state_of c.args.state.now) c.requires.kept c.requires.goes_on c.runs_are_good.ensures
 
 -- what was done on a job of this run has the log's answers
-pub handed_with-requires-clause-own : goal.handed_with-requires-clause-own
-handed_with-requires-clause-own g c is_own =
+pub hand_in-requires-clause-own : goal.hand_in-requires-clause-own
+hand_in-requires-clause-own g c is_own =
     have_answers g.S.ScriptName.script (state_of c.args.state.now) c.requires.kept c.requires.goes_on c.runs_have_the_logs_answers.ensures c.args.done (c.requires.own is_own)
 
 -- refused, taken, or with a job given out: the run stays sound, since every event keeps that
@@ -26,8 +26,8 @@ returns-in-Refused-clause-kept g c =
     let before = state_of c.args.state.now in
     let after = state_of c.add.new.self in
     let e = c.args.event in
-    let h = came script before after e e c.args.seat c.args.done c.in_ok-handed.handed c.answer.new.here.there.out.entries c.in_ok-verdict.verdict
-    refl c.in_ok-handed.ensures.handed c.handed_with.ensures.is_true c.in_ok-verdict.ensures.entries c.in_ok-verdict.ensures.outcome
+    let h = came script before after e e c.args.seat c.args.done c.hand_in.new.handed c.answer.new.here.there.out.entries c.in_ok-verdict.verdict
+    refl c.in_ok-hand_in.ensures.handed c.hand_in.ensures.is_true c.in_ok-verdict.ensures.entries c.in_ok-verdict.ensures.outcome
     c.in_ok-add.ensures.ok (c.add.ensures.whole ∙ c.in_ok-verdict.ensures.whole) c.add.ensures.nodes (c.add.ensures.halted ∙ c.requires.goes_on) in
     kept_behind script before after e c.args.seat c.args.done c.in_ok-verdict.verdict c.requires.kept c.requires.goes_on c.event_keeps_sound.ensures c.sound_is_legal.ensures h
 
@@ -37,8 +37,8 @@ returns-in-Taken-None-clause-kept g c =
     let before = state_of c.args.state.now in
     let after = state_of c.add.new.self in
     let e = c.args.event in
-    let h = came script before after e e c.args.seat c.args.done c.in_ok-handed.handed c.answer.new.here.there.out.entries c.in_ok-verdict.verdict
-    refl c.in_ok-handed.ensures.handed c.handed_with.ensures.is_true c.in_ok-verdict.ensures.entries c.in_ok-verdict.ensures.outcome
+    let h = came script before after e e c.args.seat c.args.done c.hand_in.new.handed c.answer.new.here.there.out.entries c.in_ok-verdict.verdict
+    refl c.in_ok-hand_in.ensures.handed c.hand_in.ensures.is_true c.in_ok-verdict.ensures.entries c.in_ok-verdict.ensures.outcome
     c.in_ok-add.ensures.ok (c.add.ensures.whole ∙ c.in_ok-verdict.ensures.whole) c.add.ensures.nodes (c.add.ensures.halted ∙ c.requires.goes_on) in
     kept_behind script before after e c.args.seat c.args.done c.in_ok-verdict.verdict c.requires.kept c.requires.goes_on c.event_keeps_sound.ensures c.sound_is_legal.ensures h
 
@@ -48,8 +48,8 @@ returns-clause-kept g c =
     let before = state_of c.args.state.now in
     let after = state_of c.add.new.self in
     let e = c.args.event in
-    let h = came script before after e e c.args.seat c.args.done c.in_ok-handed.handed c.answer.new.here.there.out.entries c.in_ok-verdict.verdict
-    refl c.in_ok-handed.ensures.handed c.handed_with.ensures.is_true c.in_ok-verdict.ensures.entries c.in_ok-verdict.ensures.outcome
+    let h = came script before after e e c.args.seat c.args.done c.hand_in.new.handed c.answer.new.here.there.out.entries c.in_ok-verdict.verdict
+    refl c.in_ok-hand_in.ensures.handed c.hand_in.ensures.is_true c.in_ok-verdict.ensures.entries c.in_ok-verdict.ensures.outcome
     c.in_ok-add.ensures.ok (c.add.ensures.whole ∙ c.in_ok-verdict.ensures.whole) c.add.ensures.nodes (c.add.ensures.halted ∙ c.requires.goes_on) in
     kept_behind script before after e c.args.seat c.args.done c.in_ok-verdict.verdict c.requires.kept c.requires.goes_on c.event_keeps_sound.ensures c.sound_is_legal.ensures h
 
@@ -60,8 +60,8 @@ new-requires g c =
     let before = state_of c.args.state.now in
     let after = state_of c.add.new.self in
     let e = c.args.event in
-    let h = came script before after e e c.args.seat c.args.done c.in_ok-handed.handed c.answer.new.here.there.out.entries c.in_ok-verdict.verdict
-    refl c.in_ok-handed.ensures.handed c.handed_with.ensures.is_true c.in_ok-verdict.ensures.entries c.in_ok-verdict.ensures.outcome
+    let h = came script before after e e c.args.seat c.args.done c.hand_in.new.handed c.answer.new.here.there.out.entries c.in_ok-verdict.verdict
+    refl c.in_ok-hand_in.ensures.handed c.hand_in.ensures.is_true c.in_ok-verdict.ensures.entries c.in_ok-verdict.ensures.outcome
     c.in_ok-add.ensures.ok (c.add.ensures.whole ∙ c.in_ok-verdict.ensures.whole) c.add.ensures.nodes (c.add.ensures.halted ∙ c.requires.goes_on) in
     let job = c.in-Taken-Some.job in
     let gives = c.in-Taken-Some.is ∙ ap (λ x. Taken x) c.in-Taken-Some.field-0-is in
@@ -75,8 +75,8 @@ returns-clause-applied g c =
     let before = state_of c.args.state.now in
     let after = state_of c.add.new.self in
     let e = c.args.event in
-    let h = came script before after e e c.args.seat c.args.done c.in_ok-handed.handed c.answer.new.here.there.out.entries c.in_ok-verdict.verdict
-    refl c.in_ok-handed.ensures.handed c.handed_with.ensures.is_true c.in_ok-verdict.ensures.entries c.in_ok-verdict.ensures.outcome
+    let h = came script before after e e c.args.seat c.args.done c.hand_in.new.handed c.answer.new.here.there.out.entries c.in_ok-verdict.verdict
+    refl c.in_ok-hand_in.ensures.handed c.hand_in.ensures.is_true c.in_ok-verdict.ensures.entries c.in_ok-verdict.ensures.outcome
     c.in_ok-add.ensures.ok (c.add.ensures.whole ∙ c.in_ok-verdict.ensures.whole) c.add.ensures.nodes (c.add.ensures.halted ∙ c.requires.goes_on) in
     let job = c.in-Taken-Some.job in
     let gives = c.in-Taken-Some.is ∙ ap (λ x. Taken x) c.in-Taken-Some.field-0-is in
@@ -90,8 +90,8 @@ returns-clause-own g c =
     let before = state_of c.args.state.now in
     let after = state_of c.add.new.self in
     let e = c.args.event in
-    let h = came script before after e e c.args.seat c.args.done c.in_ok-handed.handed c.answer.new.here.there.out.entries c.in_ok-verdict.verdict
-    refl c.in_ok-handed.ensures.handed c.handed_with.ensures.is_true c.in_ok-verdict.ensures.entries c.in_ok-verdict.ensures.outcome
+    let h = came script before after e e c.args.seat c.args.done c.hand_in.new.handed c.answer.new.here.there.out.entries c.in_ok-verdict.verdict
+    refl c.in_ok-hand_in.ensures.handed c.hand_in.ensures.is_true c.in_ok-verdict.ensures.entries c.in_ok-verdict.ensures.outcome
     c.in_ok-add.ensures.ok (c.add.ensures.whole ∙ c.in_ok-verdict.ensures.whole) c.add.ensures.nodes (c.add.ensures.halted ∙ c.requires.goes_on) in
     let job = c.in-Taken-Some.job in
     let gives = c.in-Taken-Some.is ∙ ap (λ x. Taken x) c.in-Taken-Some.field-0-is in

@@ -1,0 +1,10 @@
+-- What a message does to the node that it reaches.
+use Rattle.std.specs.Prelude.{Option, Some, None}
+use Rattle.protocol.specs.Messages.{Envelope}
+use Rattle.protocol.specs.Nodes.{NodeContext}
+use Rattle.protocol.specs.Slots.{node_reached}
+
+-- a message, if there is one, reaches it
+abbrev pub node_received : NodeContext → Option Envelope → NodeContext
+node_received h None = h
+node_received h (Some l) = node_reached h l.sender l.message

@@ -1,6 +1,7 @@
 // The report's last section: a line for each event that was refused.
 
-ghost use Rattle.std.specs.Prelude.{◌≡◌, ◌++◌, OnOk, None, string_bytes};
+ghost use Rattle.std.specs.Prelude.{◌≡◌, ◌++◌, [], OnOk, None, Option, false, string_bytes, true};
+ghost use Rattle.event_log.specs.Entries.{Event};
 ghost use Rattle.report_lines.specs.Refusals.{last_in, refused_in, refused_lines};
 
 use log_entries::{Entry, Event};
@@ -30,10 +31,32 @@ fn write_refusal(text: &mut String, last: &Option<Event>, entry: &Entry) -> Resu
     }
 }
 
+/// Whether the entry is a refusal.
+fn is_refusal(entry: &Entry) -> bool
+    ensures { result ≡ false → (last : Option Event) → refused_in last entry.now ≡ [] }
+{
+    matches!(entry, Entry::Refused(_))
+}
+
+/// Whether no event of the log was refused, as is so of most logs.
+fn none_refused(log: &[Entry]) -> bool
+    ensures { result ≡ true → refused_lines None log.now ≡ [] }
+{
+    for entry in log {
+        if is_refusal(entry) {
+            return false;
+        }
+    }
+    true
+}
+
 /// Writes a line for each refusal of the log.
 pub fn write_refusals(text: &mut String, log: &[Entry]) -> Result<(), AllocError>
     ensures { OnOk result (string_bytes text.new ≡ string_bytes text.old ++ refused_lines None log.now) }
 {
+    if none_refused(log) {
+        return Ok(());
+    }
     let mut last = None;
     for entry in log {
         write_refusal(text, &last, entry)?;

@@ -7,8 +7,8 @@ use crate::pages::is_page_written;
 use crate::reasons::{Course, Known, List};
 use crate::told::{Printed, Stop, tell, tell_beside};
 use crate::traps::with_trap_of_replay;
-use crate::views::{View, Views, write_done};
-use raysim_commands::{Cluster, CommandRefusal, Form, Tracked, migrate, sim, state};
+use crate::views::{View, Views, memory_of, write_done};
+use raysim_commands::{Cluster, CommandRefusal, Form, RunMemory, Tracked, migrate, sim, state};
 use raysim_files::Noted;
 use refusal_reasons::ListKind;
 use std::io;
@@ -87,7 +87,7 @@ fn print_all<R: Files + Print + Eprint + AllocGlobal>(
     views: &Views<'_>,
 ) -> ExitCode {
     let (script, listed) = (texts.script.as_slice(), texts.events.as_slice());
-    let printed = print_replay(rt, replayed.cluster, texts, form);
+    let printed = print_replay(rt, replayed.cluster, texts, form, views);
     let printed = with_trap_of_replay(rt, printed, script, listed, replayed.cluster, *form);
     if let Some(stop) = printed.stop() {
         let known = replayed.known(ListKind::Events, script, listed);
@@ -149,6 +149,7 @@ fn print_replay<R: Print + AllocGlobal>(
     cluster: Cluster,
     texts: &Texts,
     form: &Form,
+    views: &Views<'_>,
 ) -> Printed {
     let mut output = Noted::new(io::writer(rt));
     let done = sim(
@@ -157,6 +158,7 @@ fn print_replay<R: Print + AllocGlobal>(
         &mut Tracked::reader(texts.events.as_slice()),
         cluster,
         *form,
+        memory_of(form, views),
         &mut Tracked::writer(&mut output),
     );
     let error = output.error();
@@ -280,6 +282,7 @@ fn is_written<R: Files + Eprint + AllocGlobal>(
         &mut Tracked::reader(texts.events.as_slice()),
         replayed.cluster,
         view.form,
+        RunMemory::GivenBack,
         &mut Tracked::writer(&mut shown),
     );
     match write_done(rt, view.path, done, shown.as_slice()) {

@@ -7,9 +7,10 @@ use crate::pages::{TO_ITS_END, is_page_written};
 use crate::reasons::{Course, Known};
 use crate::told::{Printed, tell, tell_beside};
 use crate::traps::with_trap_of_run;
-use crate::views::{View, Views, write_done};
+use crate::views::{View, Views, memory_of, write_done};
 use raysim_commands::{
-    Cluster, CommandRefusal, Engine, Form, Tracked, Unwatched, Watcher, check, export, run, serial,
+    Cluster, CommandRefusal, Engine, Form, RunMemory, Tracked, Unwatched, Watcher, check, export,
+    run, serial,
 };
 use raysim_files::Noted;
 use raysim_options::ScriptOptions;
@@ -45,7 +46,7 @@ pub fn over_script<R: Files + Print + Eprint + AllocGlobal + Clock>(
             return ExitCode::FAILURE;
         }
     };
-    let printed = print_done(rt, command, text.as_slice());
+    let printed = print_done(rt, command, text.as_slice(), views);
     let printed = with_trap(rt, command, printed, text.as_slice());
     if let Some(stop) = printed.stop() {
         let known = known_of(command, options, text.as_slice());
@@ -100,6 +101,7 @@ fn print_done<R: Print + Eprint + AllocGlobal + Clock>(
     rt: &R,
     command: &Command,
     text: &[u8],
+    views: &Views<'_>,
 ) -> Printed {
     let mut output = Noted::new(io::writer(rt));
     let mut reader = Tracked::reader(text);
@@ -114,6 +116,7 @@ fn print_done<R: Print + Eprint + AllocGlobal + Clock>(
                 &mut reader,
                 *cluster,
                 *form,
+                memory_of(form, views),
                 &mut writer,
                 &mut life,
             );
@@ -173,6 +176,7 @@ fn is_written<R: Files + Eprint + AllocGlobal>(
         &mut Tracked::reader(text),
         cluster,
         view.form,
+        RunMemory::GivenBack,
         &mut Tracked::writer(&mut shown),
         &mut Unwatched,
     );

@@ -1,7 +1,7 @@
 // Where other views of a run are written.
 
 use crate::told::Stop;
-use raysim_commands::{CommandRefusal, Contents, Form};
+use raysim_commands::{CommandRefusal, Contents, Form, RunMemory};
 use raysim_files::write_whole;
 use std::rt::Files;
 
@@ -41,6 +41,11 @@ impl<'a> Views<'a> {
         }
     }
 
+    /// Whether no other view is asked for, for which the run is made once more.
+    fn is_report_alone(&self) -> bool {
+        self.timeline.is_none() && self.lineage.is_none() && self.page.is_none()
+    }
+
     /// The timeline's file.
     pub fn timeline(&self) -> Option<View<'a>> {
         let path = self.timeline?;
@@ -53,6 +58,14 @@ impl<'a> Views<'a> {
         let path = self.lineage?;
         let form = Form::Lineage(self.contents);
         Some(View { path, form })
+    }
+}
+
+/// What becomes of the memory of the run whose report is written in that form: where the process ends behind it, it is left to that end.
+pub fn memory_of(form: &Form, views: &Views<'_>) -> RunMemory {
+    match form {
+        Form::Text | Form::Json if views.is_report_alone() => RunMemory::LeftToTheEnd,
+        _ => RunMemory::GivenBack,
     }
 }
 

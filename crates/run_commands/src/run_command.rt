@@ -6,6 +6,7 @@ ghost use Rattle.script_commands.specs.Scripts.{IsUnwritten};
 ghost use Rattle.run_commands.specs.RunReports.{ExplainsRun, IsReportOf, IsRunBegun, IsRunReported, IsRunStop};
 
 use crate::form::Form;
+use crate::run_memory::{RunMemory, leave};
 use crate::run_stops::run_refusal;
 use crate::telling::{SoFar, told};
 use fault_runs::{Board, Cluster, Core, drive};
@@ -23,6 +24,7 @@ fn run_script<S: ScriptName, L: Watcher>(
     script: &Compiled,
     cluster: Cluster,
     form: Form,
+    memory: RunMemory,
     watcher: &mut L,
 ) -> Result<SoFar, CommandRefusal>
     requires { script_of script.now ≡ S.script }
@@ -41,7 +43,7 @@ fn run_script<S: ScriptName, L: Watcher>(
     }
     let nowhere = Seq::new(alloc);
     let told = told(alloc, &board, &sent, &nowhere, form);
-    drop(board);
+    leave(board, memory);
     told
 }
 
@@ -52,12 +54,14 @@ fn run_script<S: ScriptName, L: Watcher>(
 /// Else the refusal says why: `At` where the text is no script that the rules allow, `NoMemory`, `Stopped` where the run stops before its
 /// end for another cause, with the number that an event of it is refused (37 at a limit); or `Failed` where a read or a write failed within
 /// the call. After a failed write a beginning of the report is out; before any other refusal nothing is
-/// written. The watcher looks on while the run goes on, and changes nothing.
+/// written. The watcher looks on while the run goes on, and changes nothing. What the run took in memory is given back, or left to the end of the process,
+/// as is asked.
 pub fn run<R: Source, W: Sink, L: Watcher>(
     alloc: Global,
     reader: &mut R,
     cluster: Cluster,
     form: Form,
+    memory: RunMemory,
     writer: &mut W,
     watcher: &mut L,
 ) -> Result<u8, CommandRefusal>
@@ -73,7 +77,7 @@ pub fn run<R: Source, W: Sink, L: Watcher>(
         Ok(script) => script,
         Err(refusal) => return Err(refusal),
     };
-    let report = match run_script::<Brand, L>(alloc, &script, cluster, form, watcher) {
+    let report = match run_script::<Brand, L>(alloc, &script, cluster, form, memory, watcher) {
         Ok(report) => report,
         Err(refusal) => return Err(refusal),
     };

@@ -9,6 +9,7 @@ use crate::event_lines::EventLines;
 use crate::form::Form;
 use crate::replay_inputs::read_replay_inputs;
 use crate::replays::replayed;
+use crate::run_memory::{RunMemory, leave};
 use crate::telling::{SoFar, told_replay};
 use fault_runs::Cluster;
 use raysim_streams::{CommandRefusal, Sink, Source, put_all};
@@ -23,6 +24,7 @@ fn sim_script<S: ScriptName>(
     events: &EventLines,
     cluster: Cluster,
     form: Form,
+    memory: RunMemory,
 ) -> Result<SoFar, CommandRefusal>
     requires { script_of script.now ≡ S.script }
     ensures reported { IfOk result (λ report. IsSimReportOf (script_of script.now) cluster form events.now.says events.now.numbers
@@ -34,7 +36,7 @@ fn sim_script<S: ScriptName>(
         Err(refusal) => return Err(refusal),
     };
     let told = told_replay(alloc, &replay, &events.numbers, form);
-    drop(replay);
+    leave(replay, memory);
     told
 }
 
@@ -46,13 +48,14 @@ fn sim_script<S: ScriptName>(
 /// `Stopped` with 41 where the events are more than 100,000, `WrongJob` where a claim gave another job than its line of a recorded history
 /// says, `NoMemory`, or `Failed` where a read or a write failed within the call. The script is read and checked before the events are read,
 /// and these are read whole before the first is applied. After a failed write a beginning of the report is out; before any other refusal
-/// nothing is written.
+/// nothing is written. What the run took in memory is given back, or left to the end of the process, as is asked.
 pub fn sim<R: Source, E: Source, W: Sink>(
     alloc: Global,
     reader: &mut R,
     events: &mut E,
     cluster: Cluster,
     form: Form,
+    memory: RunMemory,
     writer: &mut W,
 ) -> Result<u8, CommandRefusal>
     ensures reported { IfOk result (λ status. IfBoth (R.left reader.old) (E.left events.old) (λ text file.
@@ -67,7 +70,14 @@ pub fn sim<R: Source, E: Source, W: Sink>(
         Ok(inputs) => inputs,
         Err(refusal) => return Err(refusal),
     };
-    let report = match sim_script::<Brand>(alloc, &inputs.script, &inputs.events, cluster, form) {
+    let report = match sim_script::<Brand>(
+        alloc,
+        &inputs.script,
+        &inputs.events,
+        cluster,
+        form,
+        memory,
+    ) {
         Ok(report) => report,
         Err(refusal) => return Err(refusal),
     };

@@ -4,9 +4,9 @@ use crate::case::{Case, Outcome};
 use crate::threaded::{ran_on_threads, threads_asked};
 use ids::{NodeId, ObjectId, WorkerId, read_number};
 use raysim_commands::{
-    Cluster, CommandRefusal, Contents, Engine, FaultChoice, Form, SoFar, Tracked, TrapAsked,
-    Unwatched, check, export, faults, migrate, put_all, run, run_so_far, run_trap, serial, sim,
-    sim_so_far, sim_trap, state, trap_asked,
+    Cluster, CommandRefusal, Contents, Engine, FaultChoice, Form, RunMemory, SoFar, Tracked,
+    TrapAsked, Unwatched, check, export, faults, migrate, put_all, run, run_so_far, run_trap,
+    serial, sim, sim_so_far, sim_trap, state, trap_asked,
 };
 use script_syntax::{parse, print_program};
 use std::alloc::{AllocError, Global};
@@ -25,7 +25,15 @@ fn replay_written(
     let mut reader = Tracked::reader(case.script.as_bytes());
     let mut events = Tracked::reader(case.events.as_bytes());
     let mut writer = Tracked::writer(written);
-    sim(alloc, &mut reader, &mut events, cluster, *form, &mut writer)
+    sim(
+        alloc,
+        &mut reader,
+        &mut events,
+        cluster,
+        *form,
+        RunMemory::GivenBack,
+        &mut writer,
+    )
 }
 
 /// Replays the case's events on a run of its script; below what `why` tells stands where a trap comes about.
@@ -182,6 +190,7 @@ fn run_written(
         &mut reader,
         cluster,
         *form,
+        RunMemory::GivenBack,
         &mut writer,
         &mut Unwatched,
     )

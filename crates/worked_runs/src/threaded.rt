@@ -3,7 +3,9 @@
 ghost use Rattle.std.specs.Prelude.{◌≤◌, IfSome};
 
 use crate::case::Case;
-use raysim_commands::{Cluster, CommandRefusal, Form, OpenGate, Tracked, run_threaded, sim};
+use raysim_commands::{
+    Cluster, CommandRefusal, Form, OpenGate, RunMemory, Tracked, run_threaded, sim,
+};
 use std::alloc::{AllocError, Global};
 use std::rt::Clock;
 use std::sync::Wait;
@@ -99,6 +101,7 @@ fn replays(alloc: Global, case: &Case, cluster: Cluster, ran: &Ran) -> bool {
         &mut events,
         cluster,
         Form::TextWithBooks,
+        RunMemory::GivenBack,
         &mut writer,
     ) {
         Ok(status) => status == ran.status && again.as_slice() == ran.report.as_slice(),

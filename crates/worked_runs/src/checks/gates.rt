@@ -1,7 +1,7 @@
 // Two jobs run at once, and the history replays.
 
 use crate::checks::failed::{Checked, Failed};
-use raysim_commands::{Cluster, Form, Gate, Tracked, run_threaded, sim};
+use raysim_commands::{Cluster, Form, Gate, RunMemory, Tracked, run_threaded, sim};
 use std::alloc::Global;
 use std::rt::Clock;
 use std::sync::Wait;
@@ -69,6 +69,7 @@ fn replays(alloc: Global, cluster: Cluster, history: &[u8], report: &mut Vec<u8>
         &mut Tracked::reader(history),
         cluster,
         Form::Text,
+        RunMemory::GivenBack,
         &mut Tracked::writer(report),
     );
     done == Ok(0)

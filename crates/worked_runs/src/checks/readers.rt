@@ -2,7 +2,7 @@
 
 use crate::checks::failed::{Checked, Failed, wants};
 use raysim_commands::{
-    Cluster, CommandRefusal, Failure, Form, Tracked, Unwatched, check, run, serial,
+    Cluster, CommandRefusal, Failure, Form, RunMemory, Tracked, Unwatched, check, run, serial,
 };
 use std::alloc::Global;
 use std::io;
@@ -36,6 +36,7 @@ pub fn a_failed_read_is_no_script(alloc: Global) -> Checked {
         &mut input,
         cluster,
         Form::Text,
+        RunMemory::GivenBack,
         &mut sink,
         &mut Unwatched,
     );

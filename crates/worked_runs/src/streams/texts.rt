@@ -1,7 +1,7 @@
 // The texts of a script and of an event file, and what comes of them.
 
 use crate::streams::failing::FailingReader;
-use raysim_commands::{Cluster, CommandRefusal, Form, Tracked, sim};
+use raysim_commands::{Cluster, CommandRefusal, Form, RunMemory, Tracked, sim};
 use std::alloc::Global;
 use std::io::{Read, Write};
 use std::rt::Files;
@@ -41,6 +41,7 @@ pub fn answer<A: Read + Drop, B: Read + Drop, W: Write + Drop>(
         &mut events,
         cluster,
         Form::Text,
+        RunMemory::GivenBack,
         &mut writer,
     ))
 }

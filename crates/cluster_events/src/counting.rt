@@ -21,7 +21,7 @@ fn asked_opens(scheduler: &Scheduler, key: &AskKey) -> bool
 {
     match reply_to(scheduler, key) {
         Some(_) => false,
-        None => has_free_slot(scheduler) && scheduler.idle.items.is_empty(),
+        None => has_free_slot(scheduler) && scheduler.idle.rows().is_empty(),
     }
 }
 
@@ -76,7 +76,7 @@ fn death_opens(alloc: Global, scheduler: &Scheduler, worker: WorkerId) -> Result
     }
     let slot_holders = without(alloc, &scheduler.slot_holders, worker)?;
     let answered = without(alloc, &scheduler.answered, worker)?;
-    let idle = without(alloc, &scheduler.idle, worker)?;
+    let idle = without(alloc, scheduler.idle.rows(), worker)?;
     let is_free = (slot_holders.len() as u64) < u64::from(scheduler.slots);
     let is_queued = !scheduler.queue.as_slice().is_empty();
     Ok(is_free && answered.items.is_empty() && is_queued && idle.items.is_empty())

@@ -9,7 +9,7 @@ use boxed_value::Boxed;
 use ids::{NodeId, WorkerId};
 use number_lists::place_of;
 use protocol_data::{
-    Asks, Attempts, ClusterState, Copies, Leases, Node, NodeContext, Objects, Outbox, Queue,
+    Asks, Attempts, ClusterState, Copies, IdleWorkers, Leases, Node, NodeContext, Objects, Outbox, Queue,
     Scheduler, Secondaries, Store, Worker, WorkerContext,
 };
 use sequence::Seq;
@@ -42,7 +42,7 @@ pub fn new_node(alloc: Global, slots: u32) -> Node
             answered: Seq::new(alloc),
             queue: Queue::new(alloc),
             asks: Asks::new(alloc),
-            idle: Seq::new(alloc),
+            idle: IdleWorkers::new(alloc),
             leases: Leases::new(alloc),
         },
     }

@@ -1,5 +1,5 @@
 -- Flags by place, in blocks of 16.
-use Rattle.std.specs.Prelude.{Bool, List, Some, false, length, slice_get, true, ℕ, ◌*◌, ◌+◌, ◌/◌, ◌<◌, ◌≡◌, ◌≤◌}
+use Rattle.std.specs.Prelude.{Bool, List, Some, false, length, slice_get, true, ℕ, ◌*◌, ◌/◌, ◌<◌, ◌≡◌, ◌≤◌}
 
 -- no flag from the one place to before the other is up
 abbrev pub AreDown : List Bool → ℕ → ℕ → Type 0
@@ -13,4 +13,8 @@ NoneIsUp fs place = (i : ℕ) (b : Bool) → i / 16 ≡ place / 16 → slice_get
 pub record IsSummedUp (fs blocks : List Bool) : Type 0 where
   pub marked : (i : ℕ) → slice_get fs i ≡ Some true → slice_get blocks (i / 16) ≡ Some true
   pub long : length fs ≤ 16 * length blocks
-  pub short : 16 * length blocks < length fs + 16
+
+-- no flag before the one place is up, and none from the other on
+pub record AreWithin (fs : List Bool) (first end : ℕ) : Type 0 where
+  pub before : AreDown fs 0 first
+  pub behind : (i : ℕ) (b : Bool) → end ≤ i → slice_get fs i ≡ Some b → b ≡ false

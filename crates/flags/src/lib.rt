@@ -1,80 +1,37 @@
 //! Flags by place, and the next one that is up.
 #![tactic(auto)]
 
-ghost use Rattle.std.specs.Prelude.{◌≡◌, ◌<◌, ◌≤◌, ◌∷◌, ◌++◌, [], OnErr, OnOk, Some, false, true, length, slice_get, slice_set};
-ghost use Rattle.flags.specs.Blocks.{AreDown, IsSummedUp, NoneIsUp};
+mod blocks;
 
-use sequence::Seq;
+ghost use Rattle.std.specs.Prelude.{Bool, List, ◌≡◌, ◌≤◌, ◌<◌, ◌∷◌, ◌++◌, [], OnErr, OnOk, Some, length, slice_get, slice_set, true};
+ghost use Rattle.flags.specs.Blocks.{AreDown, AreWithin};
+
+use crate::blocks::Blocks;
 use std::alloc::{AllocError, Global};
 use std::marker::Model;
 
-/// So many flags are a block.
-const FLAGS_OF_A_BLOCK: usize = 16;
-
 /// Flags by place, counted from 0, which contracts see as a list of truth values.
 ///
-/// Beside them stands which blocks of 16 are marked. A block with a flag up is; so a search for the next flag passes over any other in one look.
+/// A search for the next one looks at no block of 16 in which none is up, and at no place before the first that may be up or behind the last: where one
+/// is up at a time, it is found at once.
 #[derive(Drop)]
 pub struct Flags {
-    flags: Seq<bool>,
-    blocks: Seq<bool>,
+    blocks: Blocks,
+    /// No flag before this place is up.
+    first: usize,
+    /// No flag from this place on is up.
+    end: usize,
 }
 
 impl Model for Flags {
     ghost use Rattle.std.specs.Prelude.{Bool, List};
-    ghost use Rattle.flags.specs.Blocks.{IsSummedUp};
+    ghost use Rattle.flags.specs.Blocks.{AreWithin};
 
     ghost Value = { List Bool };
 
-    ghost view = { λ f. f.flags };
+    ghost view = { λ f. f.blocks };
 
-    ghost invariant = { λ f. IsSummedUp f.flags f.blocks };
-}
-
-/// Whether a flag is up in the block in which the place is.
-fn is_any_up(flags: &Seq<bool>, place: usize) -> bool
-    ensures { result ≡ false → NoneIsUp flags.now place }
-{
-    let block = place / FLAGS_OF_A_BLOCK;
-    for other in place - place % FLAGS_OF_A_BLOCK..flags.len() {
-        if other / FLAGS_OF_A_BLOCK != block {
-            return false;
-        }
-        if *flags.get(other) {
-            return true;
-        }
-    }
-    false
-}
-
-/// The first place from that one on whose flag is up, where the blocks are marked; or how many flags there are, or that place if it is more.
-fn next_up(flags: &Seq<bool>, blocks: &Seq<bool>, from: usize) -> usize
-    requires { IsSummedUp flags.now blocks.now }
-    ensures on { from ≤ result }
-    ensures down { AreDown flags.now from result }
-    ensures up { result < length flags.now → slice_get flags.now result ≡ Some true }
-{
-    let count = flags.len();
-    let mut place = from;
-    for turn in from..count {
-        let _ = turn;
-        if place >= count {
-            return place;
-        }
-        if *blocks.get(place / FLAGS_OF_A_BLOCK) {
-            if *flags.get(place) {
-                return place;
-            }
-            place = place + 1;
-            continue;
-        }
-        let first = place - place % FLAGS_OF_A_BLOCK;
-        if count - first <= FLAGS_OF_A_BLOCK {
-            return count;
-        }
-        place = first + FLAGS_OF_A_BLOCK;
-    }
-    place
+    ghost invariant = { λ f. AreWithin f.blocks f.first f.end };
 }
 
 impl Flags {
@@ -83,8 +40,9 @@ impl Flags {
         ensures { result ≡ [] }
     {
         Flags {
-            flags: Seq::new(alloc),
-            blocks: Seq::new(alloc),
+            blocks: Blocks::new(alloc),
+            first: 0,
+            end: 0,
         }
     }
 
@@ -92,23 +50,28 @@ impl Flags {
     pub fn len(&self) -> usize
         ensures { result ≡ length self.now }
     {
-        self.flags.len()
+        self.blocks.len()
     }
 
     /// Adds a flag at the end. On an error, which is want of memory, they are as they were.
+    #[tactic(auto, using(crate::proofs::Windows::added_down, crate::proofs::Windows::one_longer, crate::proofs::Windows::set_added))]
     pub fn push(&mut self, is_up: bool) -> Result<(), AllocError>
         ensures ok { OnOk result (self.new ≡ self.old ++ is_up ∷ []) }
         ensures err { OnErr result (self.new ≡ self.old) }
     {
-        let count = self.flags.len();
-        self.flags.items.reserve(1)?;
-        if count % FLAGS_OF_A_BLOCK == 0 {
-            self.blocks.push(is_up)?;
-        } else if is_up {
-            self.blocks.set(count / FLAGS_OF_A_BLOCK, true);
+        let count = self.blocks.len();
+        self.blocks.push()?;
+        if is_up {
+            self.set(count, true);
         }
-        self.flags.items.push_reserved(is_up);
         Ok(())
+    }
+
+    /// Takes the last flag out again.
+    pub fn remove_last(&mut self)
+        ensures { (xs : List Bool) (b : Bool) → self.old ≡ xs ++ b ∷ [] → self.new ≡ xs }
+    {
+        self.blocks.remove_last();
     }
 
     /// Raises or lowers the flag at the place. A block stays marked as its flag is lowered: see `sum_up`.
@@ -116,20 +79,29 @@ impl Flags {
         requires { place < length self.old }
         ensures { self.new ≡ slice_set self.old place is_up }
     {
+        let behind = self.blocks.len().min(place + 1);
+        self.blocks.set(place, is_up);
         if is_up {
-            self.blocks.set(place / FLAGS_OF_A_BLOCK, true);
+            if self.first >= self.end {
+                self.first = place;
+                self.end = behind;
+            } else if place < self.first {
+                self.first = place;
+            } else if place >= self.end {
+                self.end = behind;
+            }
+        } else if place == self.first {
+            self.first = behind;
+        } else if behind == self.end {
+            self.end = place;
         }
-        self.flags.set(place, is_up);
     }
 
     /// Takes the mark from the block in which the place is, where none of its flags is up.
     pub fn sum_up(&mut self, place: usize)
         ensures { self.new ≡ self.old }
     {
-        let block = place / FLAGS_OF_A_BLOCK;
-        if block < self.blocks.len() && *self.blocks.get(block) && !is_any_up(&self.flags, place) {
-            self.blocks.set(block, false);
-        }
+        self.blocks.sum_up(place);
     }
 
     /// The first place from that one on whose flag is up; where there is none, how many flags there are, or that place if it is more.
@@ -138,6 +110,12 @@ impl Flags {
         ensures down { AreDown self.now from result }
         ensures up { result < length self.now → slice_get self.now result ≡ Some true }
     {
-        next_up(&self.flags, &self.blocks, from)
+        let count = self.blocks.len();
+        let last = self.end.min(count);
+        let place = self.blocks.next(from.max(self.first), last);
+        if place < last {
+            return place;
+        }
+        from.max(count)
     }
 }

@@ -1,9 +1,8 @@
 -- Flags of workers, which go with the workers.
-use Rattle.std.proofs.Common.{◌≡◌, ℕ, zero, suc, ◌<◌, Bool, true, false, List, [], ◌∷◌, length, map, Option, Some, None, refl, sym, ap, ◌∙◌, arith}
+use Rattle.std.proofs.Common.{◌≡◌, ℕ, zero, suc, ◌<◌, ◌≤◌, Bool, true, false, List, [], ◌∷◌, length, map, Option, Some, None, refl, sym, ap, ◌∙◌, arith}
 use Rattle.std.specs.Prelude.{slice_get, slice_set}
 use Rattle.flags.specs.Blocks.{AreDown}
 use Rattle.protocol_data.specs.declared.tables.Worker.{Worker}
-use Rattle.protocol_data.specs.Going.{AreAtRest, may_go}
 
 some_is : {X : Type 0} (x y : X) → Some x ≡ Some y → x ≡ y
 some_is x y e = cc
@@ -23,19 +22,22 @@ map_length f [] = refl
 map_length f (x ∷ xs) = ap suc (map_length f xs)
 
 -- flags that go with workers go with them where one is exchanged
-pub flags_set : (fs : List Bool) (xs : List Worker) (i : ℕ) (x : Worker) (b : Bool) → fs ≡ map may_go xs → b ≡ may_go x → slice_set fs i b ≡ map may_go (slice_set xs i x)
-flags_set fs xs i x b e f = ap (λ gs. slice_set gs i b) e ∙ ap (λ c. slice_set (map may_go xs) i c) f ∙ map_set may_go xs i x
+pub flags_set : (f : Worker → Bool) (fs : List Bool) (xs : List Worker) (i : ℕ) (x : Worker) (b : Bool) → fs ≡ map f xs → b ≡ f x
+    → slice_set fs i b ≡ map f (slice_set xs i x)
+flags_set f fs xs i x b e g = ap (λ gs. slice_set gs i b) e ∙ ap (λ c. slice_set (map f xs) i c) g ∙ map_set f xs i x
 
-pub flags_length : (fs : List Bool) (xs : List Worker) → fs ≡ map may_go xs → length fs ≡ length xs
-flags_length fs xs e = ap length e ∙ map_length may_go xs
+pub flags_length : (f : Worker → Bool) (fs : List Bool) (xs : List Worker) → fs ≡ map f xs → length fs ≡ length xs
+flags_length f fs xs e = ap length e ∙ map_length f xs
 
--- no flag is up: no worker goes
-pub all_rest : (fs : List Bool) (xs : List Worker) (from to : ℕ) → fs ≡ map may_go xs → AreDown fs from to → AreAtRest xs from to
-all_rest fs xs from to e down i x a b g = down i (may_go x) a b (ap (λ gs. slice_get gs i) e ∙ get_map may_go xs i x g)
+-- no flag is up: none of the workers is so
+pub none_so : (f : Worker → Bool) (fs : List Bool) (xs : List Worker) (from to : ℕ) → fs ≡ map f xs → AreDown fs from to
+    → (i : ℕ) (x : Worker) → from ≤ i → i < to → slice_get xs i ≡ Some x → f x ≡ false
+none_so f fs xs from to e down i x a b g = down i (f x) a b (ap (λ gs. slice_get gs i) e ∙ get_map f xs i x g)
 
--- the flag is up: the worker goes
-pub that_goes : (fs : List Bool) (xs : List Worker) (i : ℕ) (x : Worker) → fs ≡ map may_go xs → slice_get fs i ≡ Some true → slice_get xs i ≡ Some x → may_go x ≡ true
-that_goes fs xs i x e u g = some_is (may_go x) true (sym (get_map may_go xs i x g) ∙ ap (λ gs. slice_get gs i) (sym e) ∙ u)
+-- the flag is up: the worker is so
+pub that_is_so : (f : Worker → Bool) (fs : List Bool) (xs : List Worker) (i : ℕ) (x : Worker) → fs ≡ map f xs → slice_get fs i ≡ Some true
+    → slice_get xs i ≡ Some x → f x ≡ true
+that_is_so f fs xs i x e u g = some_is (f x) true (sym (get_map f xs i x g) ∙ ap (λ gs. slice_get gs i) (sym e) ∙ u)
 
 -- what stands there is within
 pub there_within : (xs : List Worker) (i : ℕ) (x : Worker) → slice_get xs i ≡ Some x → i < length xs
@@ -49,10 +51,11 @@ none_past (x ∷ xs) zero h e = absurd cc
 none_past (x ∷ xs) (suc i) h e = none_past xs i (omega (arith, h)) e
 
 -- a flag is lowered as its worker dies
-pub flags_lowered : (fs : List Bool) (xs ys : List Worker) (i : ℕ) → fs ≡ map may_go xs → i < length xs
-    → ((x : Worker) → slice_get xs i ≡ Some x → ys ≡ slice_set xs i (record x { is_live = false })) → slice_set fs i false ≡ map may_go ys
-flags_lowered fs xs ys i e h f = by (slice_get xs i) refl
+pub flags_lowered : (f : Worker → Bool) → ((x : Worker) → f (record x { is_live = false }) ≡ false) → (fs : List Bool) (xs ys : List Worker) (i : ℕ)
+    → fs ≡ map f xs → i < length xs
+    → ((x : Worker) → slice_get xs i ≡ Some x → ys ≡ slice_set xs i (record x { is_live = false })) → slice_set fs i false ≡ map f ys
+flags_lowered f dead fs xs ys i e h g = by (slice_get xs i) refl
   where
-    by : (o : Option Worker) → slice_get xs i ≡ o → slice_set fs i false ≡ map may_go ys
-    by None g = absurd (none_past xs i h g)
-    by (Some x) g = flags_set fs xs i (record x { is_live = false }) false e refl ∙ ap (map may_go) (sym (f x g))
+    by : (o : Option Worker) → slice_get xs i ≡ o → slice_set fs i false ≡ map f ys
+    by None k = absurd (none_past xs i h k)
+    by (Some x) k = flags_set f fs xs i (record x { is_live = false }) false e (sym (dead x)) ∙ ap (map f) (sym (g x k))

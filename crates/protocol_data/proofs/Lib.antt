@@ -1,5 +1,7 @@
+pub mod Bounding
 pub mod Copying
 pub mod Going
+pub mod Idle
 pub mod Leasing
 pub mod Noting
 pub mod Queueing

@@ -256,30 +256,30 @@ put_viewed k x seen xs after v e = e ∙ ap (λ ys. filter (λ r. not (is_that_a
 
 -- ---- attempts
 
-unbounded : (bounds : List ℕ) (xs : List Attempt) (a : Attempt) → AreBounded bounds xs → may_be_noted bounds a.object ≡ false → list_any (λ b. same_attempt b a) xs ≡ false
-unbounded bounds [] a n h = refl
-unbounded bounds (x ∷ xs) a n h = neither (same_attempt x a) (list_any (λ b. same_attempt b a) xs) (other (same_attempt x a) refl) (unbounded bounds xs a n.1 h)
+unbounded : (all : List Id) (xs : List Attempt) (a : Attempt) → AreBounded all xs → may_be_noted all a.object ≡ false → list_any (λ b. same_attempt b a) xs ≡ false
+unbounded all [] a n h = refl
+unbounded all (x ∷ xs) a n h = neither (same_attempt x a) (list_any (λ b. same_attempt b a) xs) (other (same_attempt x a) refl) (unbounded all xs a n.1 h)
   where
     other : (b : Bool) → same_attempt x a ≡ b → b ≡ false
     other false e = refl
-    other true e = absurd (true_false (sym n.0 ∙ ap (λ y. may_be_noted bounds y.object) (same_attempt-true x a e) ∙ h))
+    other true e = absurd (true_false (sym n.0 ∙ ap (λ y. may_be_noted all y.object) (same_attempt-true x a e) ∙ h))
 
-pub never_begun : (bounds : List ℕ) (xs : List Attempt) (a : Attempt) (o : Id) (b : Bool) → AreBounded bounds xs → o ≡ a.object → b ≡ may_be_noted bounds o → b ≡ false →
+pub never_begun : (all : List Id) (xs : List Attempt) (a : Attempt) (o : Id) (b : Bool) → AreBounded all xs → o ≡ a.object → b ≡ may_be_noted all o → b ≡ false →
     false ≡ list_any (λ c. same_attempt c a) xs
-never_begun bounds xs a o b n s e h = sym (unbounded bounds xs a n (ap (may_be_noted bounds) (sym s) ∙ sym e ∙ h))
+never_begun all xs a o b n s e h = sym (unbounded all xs a n (ap (may_be_noted all) (sym s) ∙ sym e ∙ h))
 
-pub bounded_more : (bounds wider : List ℕ) (xs : List Attempt) → ((o : Id) → may_be_noted bounds o ≡ true → may_be_noted wider o ≡ true) → AreBounded bounds xs → AreBounded wider xs
-bounded_more bounds wider [] f n = tt
-bounded_more bounds wider (x ∷ xs) f n = (f x.object n.0, bounded_more bounds wider xs f n.1)
+pub bounded_more : (all wider : List Id) (xs : List Attempt) → ((o : Id) → may_be_noted all o ≡ true → may_be_noted wider o ≡ true) → AreBounded all xs → AreBounded wider xs
+bounded_more all wider [] f n = tt
+bounded_more all wider (x ∷ xs) f n = (f x.object n.0, bounded_more all wider xs f n.1)
 
-pub bounded_push : (bounds : List ℕ) (xs : List Attempt) (a : Attempt) (o : Id) → AreBounded bounds xs → o ≡ a.object → may_be_noted bounds o ≡ true → AreBounded bounds (xs ++ a ∷ [])
-bounded_push bounds [] a o n s h = (ap (may_be_noted bounds) (sym s) ∙ h, tt)
-bounded_push bounds (x ∷ xs) a o n s h = (n.0, bounded_push bounds xs a o n.1 s h)
+pub bounded_push : (all : List Id) (xs : List Attempt) (a : Attempt) (o : Id) → AreBounded all xs → o ≡ a.object → may_be_noted all o ≡ true → AreBounded all (xs ++ a ∷ [])
+bounded_push all [] a o n s h = (ap (may_be_noted all) (sym s) ∙ h, tt)
+bounded_push all (x ∷ xs) a o n s h = (n.0, bounded_push all xs a o n.1 s h)
 
-pub bounded_err : (bounds wider : List ℕ) (xs after : List Attempt) → AreBounded bounds xs → after ≡ xs → ((o : Id) → may_be_noted bounds o ≡ true → may_be_noted wider o ≡ true) →
+pub bounded_err : (all wider : List Id) (xs after : List Attempt) → AreBounded all xs → after ≡ xs → ((o : Id) → may_be_noted all o ≡ true → may_be_noted wider o ≡ true) →
     AreBounded wider after
-bounded_err bounds wider xs after n e f = subst (λ ys. AreBounded wider ys) (sym e) (bounded_more bounds wider xs f n)
+bounded_err all wider xs after n e f = subst (λ ys. AreBounded wider ys) (sym e) (bounded_more all wider xs f n)
 
-pub bounded_after : (bounds wider : List ℕ) (xs after : List Attempt) (a : Attempt) (o : Id) → AreBounded bounds xs → after ≡ xs ++ a ∷ [] →
-    ((o : Id) → may_be_noted bounds o ≡ true → may_be_noted wider o ≡ true) → o ≡ a.object → may_be_noted wider o ≡ true → AreBounded wider after
-bounded_after bounds wider xs after a o n e f s h = subst (λ ys. AreBounded wider ys) (sym e) (bounded_push wider xs a o (bounded_more bounds wider xs f n) s h)
+pub bounded_after : (all wider : List Id) (xs after : List Attempt) (a : Attempt) (o : Id) → AreBounded all xs → after ≡ xs ++ a ∷ [] →
+    ((o : Id) → may_be_noted all o ≡ true → may_be_noted wider o ≡ true) → o ≡ a.object → may_be_noted wider o ≡ true → AreBounded wider after
+bounded_after all wider xs after a o n e f s h = subst (λ ys. AreBounded wider ys) (sym e) (bounded_push wider xs a o (bounded_more all wider xs f n) s h)

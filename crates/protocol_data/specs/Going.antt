@@ -22,6 +22,27 @@ has_going (Some run) = is_going run.phase
 abbrev pub may_go : Worker → Bool
 may_go x = x.is_live && has_going x.run
 
+-- the attempt's job is out
+abbrev pub is_out : Phase → Bool
+is_out (Out j) = true
+is_out Ready = false
+is_out (Waits o f) = false
+is_out (HasEnded cs) = false
+is_out (HasFaulted f) = false
+
+-- there is an attempt, and its job is out
+abbrev pub has_out : Option Execution → Bool
+has_out None = false
+has_out (Some run) = is_out run.phase
+
+-- the worker lives, and its job is out
+abbrev pub may_commit : Worker → Bool
+may_commit x = x.is_live && has_out x.run
+
 -- no worker from the one place to before the other has anything to claim or to commit
 abbrev pub AreAtRest : List Worker → ℕ → ℕ → Type 0
 AreAtRest xs from to = (i : ℕ) (x : Worker) → from ≤ i → i < to → slice_get xs i ≡ Some x → may_go x ≡ false
+
+-- of no worker from the one place to before the other is the job out
+abbrev pub HaveNoneOut : List Worker → ℕ → ℕ → Type 0
+HaveNoneOut xs from to = (i : ℕ) (x : Worker) → from ≤ i → i < to → slice_get xs i ≡ Some x → may_commit x ≡ false

@@ -1,5 +1,5 @@
--- An index that tells what was surely never noted: of each owner, a serial that none noted passes.
-use Rattle.std.specs.Prelude.{Bool, List, None, Option, Some, [], false, nat_lt, not, slice_get, ℕ, ◌&&◌, ◌==◌, ◌||◌, ◌∷◌, ◌≡◌, true}
+-- An index that tells what was surely never noted: of each owner, an object that none noted comes behind.
+use Rattle.std.specs.Prelude.{Bool, List, None, Option, Some, [], false, nat_lt, not, ℕ, ◌&&◌, ◌==◌, ◌∷◌, ◌≡◌, true}
 use Rattle.std.specs.List.{list_any}
 use Rattle.meaning.specs.Values.{Id}
 use Rattle.event_log.specs.Entries.{Attempt}
@@ -12,9 +12,13 @@ abbrev pub serial_or : Option ℕ → ℕ
 serial_or None = 0
 serial_or (Some n) = n
 
--- the object may have been noted: it passes no bound of its owner, who may also be too high a number to have one
-abbrev pub may_be_noted : List ℕ → Id → Bool
-may_be_noted bounds o = not (nat_lt o.owner 4096) || not (nat_lt (serial_or (slice_get bounds o.owner)) o.serial)
+-- the object is of the bound's owner, and doesn't come behind it
+abbrev pub bounds : Id → Id → Bool
+bounds o b = (b.owner == o.owner) && not (nat_lt b.serial o.serial)
+
+-- the object may have been noted: there is a bound that it doesn't pass
+abbrev pub may_be_noted : List Id → Id → Bool
+may_be_noted all o = list_any (bounds o) all
 
 -- it is that ask
 abbrev pub is_that_ask : AskKey → Asked → Bool
@@ -26,6 +30,6 @@ AreDistinct [] = Unit {0}
 AreDistinct (x ∷ xs) = (list_any (is_that_ask x.key) xs ≡ false) × AreDistinct xs
 
 -- each attempt's object may have been noted
-abbrev pub AreBounded : List ℕ → List Attempt → Type 0
-AreBounded bounds [] = Unit {0}
-AreBounded bounds (a ∷ rest) = (may_be_noted bounds a.object ≡ true) × AreBounded bounds rest
+abbrev pub AreBounded : List Id → List Attempt → Type 0
+AreBounded all [] = Unit {0}
+AreBounded all (a ∷ rest) = (may_be_noted all a.object ≡ true) × AreBounded all rest

@@ -4,8 +4,7 @@ ghost use Rattle.std.specs.Prelude.{◌≡◌, ◌++◌, ◌∷◌, [], ◌<◌,
 ghost use Rattle.std.specs.List.{filter, find, list_any};
 ghost use Rattle.std.specs.Option.{option_map};
 ghost use Rattle.event_log.specs.Words.{same_attempt};
-ghost use Rattle.meaning.specs.Values.{Id};
-ghost use Rattle.protocol_data.specs.Noted.{AreDistinct, is_that_ask, may_be_noted, serial_or};
+ghost use Rattle.protocol_data.specs.Noted.{AreDistinct, is_that_ask};
 ghost use Rattle.protocol_data.specs.Marked.{AreMarked, is_that_row, there};
 
 use crate::marks::{copy_marks, mark, mark_of, may_be_marked};
@@ -14,56 +13,6 @@ use ids::ObjectId;
 use sequence::Seq;
 use std::alloc::{AllocError, Global};
 use std::marker::Model;
-
-/// Owners of higher numbers have no bound.
-const MOST_OWNERS: u32 = 4096;
-
-/// Whether the object may have been noted.
-pub fn may_be_noted(bounds: &Seq<u64>, object: ObjectId) -> bool
-    ensures { result ≡ may_be_noted bounds.now object }
-{
-    let owner = object.owner.0;
-    if owner >= MOST_OWNERS {
-        return true;
-    }
-    let place = owner as usize;
-    if place >= bounds.len() {
-        return object.serial == 0;
-    }
-    object.serial <= *bounds.get(place)
-}
-
-/// There is a bound for each owner up to that one.
-fn lengthen(bounds: &mut Seq<u64>, owner: usize) -> Result<(), AllocError>
-    requires { owner < 4096 }
-    ensures long { OnOk result (owner < length bounds.new) }
-    ensures kept { (i : ℕ) → serial_or (slice_get bounds.new i) ≡ serial_or (slice_get bounds.old i) }
-{
-    let len = bounds.len();
-    for place in len..owner + 1 {
-        let _ = place;
-        bounds.push(0)?;
-    }
-    Ok(())
-}
-
-/// Raises the bound of the object's owner, so that the object is one of those that may have been noted; those noted before stay so.
-pub fn note(bounds: &mut Seq<u64>, object: ObjectId) -> Result<(), AllocError>
-    ensures noted { OnOk result (may_be_noted bounds.new object ≡ true) }
-    ensures kept { (o : Id) → may_be_noted bounds.old o ≡ true → may_be_noted bounds.new o ≡ true }
-{
-    if may_be_noted(bounds, object) {
-        return Ok(());
-    }
-    let owner = object.owner.0;
-    if owner >= MOST_OWNERS {
-        return Ok(());
-    }
-    let place = owner as usize;
-    lengthen(bounds, place)?;
-    bounds.set(place, object.serial);
-    Ok(())
-}
 
 fn object_of(key: &AskKey) -> ObjectId
     ensures { result ≡ key.now.attempt.object }

@@ -1,15 +1,55 @@
 // The attempts that a worker ever began, with an index that tells what it surely never began.
 
-ghost use Rattle.std.specs.Prelude.{◌≡◌, ◌++◌, ◌∷◌, [], IfOk, OnOk};
+ghost use Rattle.std.specs.Prelude.{◌≡◌, ◌&&◌, ◌==◌, ◌++◌, ◌∷◌, [], IfOk, OnOk, nat_lt, true};
 ghost use Rattle.std.specs.List.{list_any};
 ghost use Rattle.event_log.specs.Words.{same_attempt};
-ghost use Rattle.protocol_data.specs.Noted.{AreBounded};
+ghost use Rattle.meaning.specs.Values.{Id};
+ghost use Rattle.protocol_data.specs.Noted.{AreBounded, bounds, may_be_noted};
 
-use crate::asks::{may_be_noted, note};
 use ids::{AttemptId, ObjectId};
 use sequence::Seq;
 use std::alloc::{AllocError, Global};
 use std::marker::Model;
+
+/// Whether the object is of the bound's owner, and doesn't come behind it.
+fn bounds(bound: ObjectId, object: ObjectId) -> bool
+    ensures { result ≡ bounds object bound }
+{
+    bound.owner.0 == object.owner.0 && bound.serial >= object.serial
+}
+
+/// Whether the object may have been noted.
+fn may_be_noted(all: &Seq<ObjectId>, object: ObjectId) -> bool
+    ensures { result ≡ may_be_noted all.now object }
+{
+    all.items.iter().any(|b| bounds(*b, object))
+}
+
+/// Whether the object is of the bound's owner, and comes behind it.
+fn is_behind(bound: ObjectId, object: ObjectId) -> bool
+    ensures { result ≡ ((bound.owner == object.owner) && nat_lt bound.serial object.serial) }
+{
+    bound.owner.0 == object.owner.0 && bound.serial < object.serial
+}
+
+/// Raises the bound of the object's owner, so that the object is one of those that may have been noted; those noted before stay so.
+#[tactic(auto, using(crate::proofs::Bounding::noted_there, crate::proofs::Bounding::kept_there, crate::proofs::Bounding::noted_last, crate::proofs::Bounding::kept_before))]
+fn note(all: &mut Seq<ObjectId>, object: ObjectId) -> Result<(), AllocError>
+    ensures noted { OnOk result (may_be_noted all.new object ≡ true) }
+    ensures kept { (o : Id) → may_be_noted all.old o ≡ true → may_be_noted all.new o ≡ true }
+{
+    for place in 0..all.len() {
+        let bound = *all.get(place);
+        if bounds(bound, object) {
+            return Ok(());
+        }
+        if is_behind(bound, object) {
+            all.set(place, object);
+            return Ok(());
+        }
+    }
+    all.push(object)
+}
 
 fn made_object(attempt: AttemptId) -> ObjectId
     ensures { result ≡ attempt.object }
@@ -24,22 +64,23 @@ fn has_attempt(rows: &Seq<AttemptId>, attempt: AttemptId) -> bool
 }
 
 /// Whether the attempt is one of them.
-fn has_bounded(rows: &Seq<AttemptId>, bounds: &Seq<u64>, attempt: AttemptId) -> bool
-    requires { AreBounded bounds.now rows.now }
+fn has_bounded(rows: &Seq<AttemptId>, all: &Seq<ObjectId>, attempt: AttemptId) -> bool
+    requires { AreBounded all.now rows.now }
     ensures { result ≡ list_any (λ b. same_attempt b attempt) rows.now }
 {
     let object = made_object(attempt);
-    if !may_be_noted(bounds, object) {
+    if !may_be_noted(all, object) {
         return false;
     }
     has_attempt(rows, attempt)
 }
 
-/// Attempts, in order. Contracts see the list. Beside it stands of each owner a serial that none of its objects among them passes.
+/// Attempts, in order. Contracts see the list. Beside it stands of each owner the object of highest serial among them, by which an attempt that is new, as
+/// most are, is known to be.
 #[derive(Drop, Debug)]
 pub struct Attempts {
     rows: Seq<AttemptId>,
-    bounds: Seq<u64>,
+    bounds: Seq<ObjectId>,
 }
 
 impl Model for Attempts {

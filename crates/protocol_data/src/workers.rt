@@ -1,7 +1,7 @@
 // The workers of a run, with an index of those that may have something to claim or to commit.
 
 ghost use Rattle.std.specs.Prelude.{◌≡◌, ◌++◌, ◌∷◌, [], ◌<◌, ◌≤◌, OnErr, OnOk, Some, false, length, slice_get, slice_set, true};
-ghost use Rattle.protocol_data.specs.Going.{AreAtRest, has_going, is_going, may_go};
+ghost use Rattle.protocol_data.specs.Going.{AreAtRest, HaveNoneOut, has_going, has_out, is_going, is_out, may_commit, may_go};
 ghost use Rattle.protocol_data.specs.declared.tables.Worker.{Worker};
 
 use crate::tables::{Execution, Phase, Worker};
@@ -34,6 +34,35 @@ fn has_going(run: &Option<Execution>) -> bool
     }
 }
 
+/// Whether the attempt's job is out.
+fn is_out(phase: &Phase) -> bool
+    ensures { result ≡ is_out phase.now }
+{
+    match phase {
+        Phase::Out(_) => true,
+        Phase::Ready => false,
+        Phase::Waits(..) => false,
+        Phase::HasEnded(_) => false,
+        Phase::HasFaulted(_) => false,
+    }
+}
+
+fn has_out(run: &Option<Execution>) -> bool
+    ensures { result ≡ has_out run.now }
+{
+    match run {
+        None => false,
+        Some(run) => is_out(&run.phase),
+    }
+}
+
+/// Whether the worker lives and its job is out.
+fn may_commit(worker: &Worker) -> bool
+    ensures { result ≡ may_commit worker.now }
+{
+    worker.is_live && has_out(&worker.run)
+}
+
 /// Whether the worker lives and may have something to claim or to commit.
 fn may_go(worker: &Worker) -> bool
     ensures { result ≡ may_go worker.now }
@@ -61,11 +90,12 @@ fn kill(rows: &mut Seq<Boxed<Worker>>, place: usize)
 
 /// Workers by number, from 1 on, dead ones too, which contracts see as the list of them.
 ///
-/// Beside them stands which of them may have something to claim or to commit, so that the choice of the next event looks at no other.
+/// Beside them stands which of them may have something to claim or to commit, and whose job is out, so that the choice of the next event looks at no other.
 #[derive(Drop)]
 pub struct Workers {
     rows: Seq<Boxed<Worker>>,
     going: Flags,
+    out: Flags,
 }
 
 impl Model for Workers {
@@ -76,7 +106,7 @@ impl Model for Workers {
     ghost use Rattle.ids.specs.Codes.{attempt_code};
     ghost use Rattle.log_entries.specs.of_values.FaultCodes.{fault_code};
     ghost use Rattle.protocol_data.specs.declared.tables.Worker.{Worker};
-    ghost use Rattle.protocol_data.specs.Going.{may_go};
+    ghost use Rattle.protocol_data.specs.Going.{may_commit, may_go};
 
     ghost Value = { List Worker };
 
@@ -84,7 +114,7 @@ impl Model for Workers {
 
     ghost view = { λ w. w.rows };
 
-    ghost invariant = { λ w. w.going ≡ map may_go w.rows };
+    ghost invariant = { λ w. (w.going ≡ map may_go w.rows) × (w.out ≡ map may_commit w.rows) };
 }
 
 impl Workers {
@@ -95,6 +125,7 @@ impl Workers {
         Workers {
             rows: Seq::new(alloc),
             going: Flags::new(alloc),
+            out: Flags::new(alloc),
         }
     }
 
@@ -137,6 +168,15 @@ impl Workers {
         self.going.next(from)
     }
 
+    /// The first place from that one on whose worker's job is out; where there is none, how many workers there are, or that place if it is more.
+    pub fn next_out(&self, from: usize) -> usize
+        ensures on { from ≤ result }
+        ensures rest { HaveNoneOut self.now from result }
+        ensures goes { (x : Worker) → slice_get self.now result ≡ Some x → may_commit x ≡ true }
+    {
+        self.out.next(from)
+    }
+
     /// Adds a worker with the next number. On an error, which is want of memory, the workers are as they were.
     pub fn push(&mut self, worker: Boxed<Worker>) -> Result<(), AllocError>
         ensures ok { OnOk result (self.new ≡ self.old ++ worker ∷ []) }
@@ -144,6 +184,10 @@ impl Workers {
     {
         self.rows.items.reserve(1)?;
         self.going.push(may_go(&worker))?;
+        if let Err(error) = self.out.push(may_commit(&worker)) {
+            self.going.remove_last();
+            return Err(error);
+        }
         self.rows.items.push_reserved(worker);
         Ok(())
     }
@@ -155,6 +199,7 @@ impl Workers {
         ensures put { self.new ≡ slice_set self.old place worker.old }
     {
         self.going.set(place, may_go(worker));
+        self.out.set(place, may_commit(worker));
         exchange(&mut self.rows, place, worker);
     }
 
@@ -171,6 +216,7 @@ impl Workers {
         ensures { self.new ≡ slice_set self.old place worker }
     {
         self.going.set(place, may_go(&worker));
+        self.out.set(place, may_commit(&worker));
         self.rows.set(place, worker);
     }
 
@@ -180,6 +226,7 @@ impl Workers {
         ensures { (x : Worker) → slice_get self.old place ≡ Some x → self.new ≡ slice_set self.old place (record x { is_live = false }) }
     {
         self.going.set(place, false);
+        self.out.set(place, false);
         kill(&mut self.rows, place);
     }
 }

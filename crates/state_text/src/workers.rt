@@ -51,7 +51,7 @@ fn is_idle(whole: &ClusterState, node: NodeId, worker: WorkerId) -> bool
 {
     match node_at(whole, node) {
         None => false,
-        Some(found) => is_one(found.scheduler.idle.as_slice(), worker),
+        Some(found) => is_one(found.scheduler.idle.rows().as_slice(), worker),
     }
 }
 

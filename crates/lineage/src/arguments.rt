@@ -20,7 +20,7 @@ fn ids_read(alloc: Global, spec: &SharedBirth) -> Result<Seq<ObjectId>, AllocErr
     ensures { IfOk result (λ ids. ids ≡ dereferenced_in spec.now) }
 {
     let found = dereferenced(&spec.inner, alloc)?;
-    convert(alloc, &found)
+    Ok(convert(found))
 }
 
 /// The task that makes the own object of that serial.

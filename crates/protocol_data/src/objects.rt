@@ -1,11 +1,13 @@
 // A worker's own objects, with an index of those that may be released.
 
-ghost use Rattle.std.specs.Prelude.{◌≡◌, ◌++◌, ◌∷◌, [], ◌<◌, ◌≤◌, ◌^◌, OnErr, OnOk, length, slice_get, IfOk, Some};
+ghost use Rattle.std.specs.Prelude.{◌≡◌, ◌++◌, ◌∷◌, [], ◌<◌, ◌≤◌, ◌^◌, OnErr, OnOk, length, slice_get, IfOk, Some, true};
 ghost use Rattle.std.specs.Borrow.{Lends, sem};
 ghost use Rattle.protocol_data.specs.Unneeded.{AllStay, Goes};
 ghost use Rattle.protocol_data.specs.Lending.{LendsRow};
 
-use crate::search::{Search, attend, first_to_go, least, nothing_seen, settle, widened};
+use crate::search::{
+    Search, attend, first_to_go, is_looked_over, least, nothing_seen, settle, widened,
+};
 use crate::tables::Object;
 use ids::AttemptId;
 use indexmap::IndexMap;
@@ -107,11 +109,14 @@ impl Objects {
         &mut self.rows[place]
     }
 
-    /// From now on the objects of that attempt are kept, and of no other.
-    pub fn attend(&mut self, going_on: Option<AttemptId>)
-        ensures { self.new ≡ self.old }
+    /// From now on the objects of that attempt are kept, and of no other. Where it is known, with no look at the objects, that none is released while
+    /// the attempt goes on, the answer is true, and there is nothing to settle.
+    pub fn attend(&mut self, going_on: Option<AttemptId>) -> bool
+        ensures same { self.new ≡ self.old }
+        ensures rest { result ≡ true → AllStay self.new 0 (length self.new) going_on }
     {
         attend(&mut self.search, going_on);
+        is_looked_over(&self.rows, &self.search, &going_on)
     }
 
     /// The first place from that one on whose object may be released, where the attempt goes on; or one behind the last.

@@ -261,6 +261,21 @@ fn next_unsure(search: &Search, from: usize, going_on: &Option<AttemptId>) -> us
     from
 }
 
+/// Whether it is known, with no look at the objects, that none is released while the attempt goes on, and that none need be looked at again.
+pub fn is_looked_over(
+    rows: &IndexMap<u64, Object>,
+    search: &Search,
+    going_on: &Option<AttemptId>,
+) -> bool
+    requires { IsSearchedBy (values rows.now) search.now }
+    ensures { result ≡ true → AllStay (values rows.now) 0 (length (values rows.now)) going_on.now }
+{
+    if search.changed_from < search.changed_to {
+        return false;
+    }
+    next_unsure(search, 0, going_on) >= rows.len()
+}
+
 /// The first place from that one on of an object that may be released, where the attempt goes on; or one behind the last.
 pub fn first_to_go(
     rows: &IndexMap<u64, Object>,

@@ -1,7 +1,7 @@
 -- A search from a place on: what stands there, and what comes after it.
 use Rattle.std.proofs.Common.{◌≡◌, ℕ, zero, suc, ◌+◌, ◌-◌, ◌≤◌, Bool, true, false, if◌then◌else◌, List, [], ◌∷◌, length, drop, Option, Some, None, refl, sym, ap, ◌∙◌, arith, subst}
 use Rattle.std.specs.Prelude.{◌&&◌, not, slice_get}
-use Rattle.protocol_data.specs.Going.{AreAtRest, has_going, is_going, may_go}
+use Rattle.protocol_data.specs.Going.{AreAtRest, HaveNoneOut, has_going, has_out, is_going, is_out, may_commit, may_go}
 use Rattle.protocol.specs.Refusals.{has_slot, is_ready_phase, is_ready_run, job_in_phase, job_in_run, job_out}
 use Rattle.protocol.specs.Sets.{has}
 use Rattle.protocol.specs.Settling.{first_false, first_job, first_ready, or_number}
@@ -72,18 +72,18 @@ none_at [] i e = omega arith
 none_at (x ∷ xs) zero e = absurd cc
 none_at (x ∷ xs) (suc i) e = omega (arith, none_at xs i e)
 
-no_job_in_phase : (p : Phase) → is_going p ≡ false → job_in_phase p ≡ None
-no_job_in_phase Ready e = absurd (true_false e)
+no_job_in_phase : (p : Phase) → is_out p ≡ false → job_in_phase p ≡ None
+no_job_in_phase Ready e = refl
 no_job_in_phase (Out j) e = absurd (true_false e)
 no_job_in_phase (Waits o f) e = refl
 no_job_in_phase (HasEnded cs) e = refl
 no_job_in_phase (HasFaulted f) e = refl
 
-no_job_in_run : (r : Option Execution) → has_going r ≡ false → job_in_run r ≡ None
+no_job_in_run : (r : Option Execution) → has_out r ≡ false → job_in_run r ≡ None
 no_job_in_run None e = refl
 no_job_in_run (Some run) e = no_job_in_phase run.phase e
 
-none_out : (b : Bool) (r : Option Execution) → (b && has_going r) ≡ false → (if b then job_in_run r else None) ≡ None
+none_out : (b : Bool) (r : Option Execution) → (b && has_out r) ≡ false → (if b then job_in_run r else None) ≡ None
 none_out true r e = no_job_in_run r e
 none_out false r e = refl
 
@@ -91,8 +91,8 @@ left_out : (b : Bool) (o : Option ℕ) → o ≡ None → (if b then None else o
 left_out true o e = refl
 left_out false o e = e
 
--- a worker at rest has no job out
-no_job_at_rest : (but : List ℕ) (k : ℕ) (x : Worker) → may_go x ≡ false → (if has but k then None else job_out x) ≡ None
+-- a worker whose job isn't out has none
+no_job_at_rest : (but : List ℕ) (k : ℕ) (x : Worker) → may_commit x ≡ false → (if has but k then None else job_out x) ≡ None
 no_job_at_rest but k x e = left_out (has but k) (job_out x) (none_out x.is_live x.run e)
 
 not_ready_phase : (p : Phase) → is_going p ≡ false → is_ready_phase p ≡ false
@@ -133,7 +133,7 @@ none_ready_further c but i xs h = ap (first_ready c but (i + 1)) (none_past xs i
 not_next : (c : ClusterState) (but : List ℕ) (k : ℕ) (x : Worker) → may_go x ≡ false → is_next c but k x ≡ false
 not_next c but k x e = none_ready x.is_live x.run (has_slot k (node_at c x.node)) (not (has but k)) e
 
-one_job_on : (but : List ℕ) (xs : List Worker) (i : ℕ) → ((x : Worker) → slice_get xs i ≡ Some x → may_go x ≡ false)
+one_job_on : (but : List ℕ) (xs : List Worker) (i : ℕ) → ((x : Worker) → slice_get xs i ≡ Some x → may_commit x ≡ false)
     → first_job but (i + 1) (drop i xs) ≡ first_job but (i + 1 + 1) (drop (i + 1) xs)
 one_job_on but xs i rest = by (slice_get xs i) refl
   where
@@ -153,7 +153,7 @@ one_ready_on c but xs i rest = by (slice_get xs i) refl
         ap (first_ready c but (i + 1)) (none_past xs i h) ∙ sym (ap (first_ready c but (i + 1 + 1)) (none_past xs (i + 1) (omega (arith, h))))
     by (Some x) e = none_ready_there c but i xs x e (not_next c but (i + 1) x (rest x e))
 
-jobs_by : (but : List ℕ) (xs : List Worker) (d i : ℕ) → AreAtRest xs i (i + d) → first_job but (i + 1) (drop i xs) ≡ first_job but (i + d + 1) (drop (i + d) xs)
+jobs_by : (but : List ℕ) (xs : List Worker) (d i : ℕ) → HaveNoneOut xs i (i + d) → first_job but (i + 1) (drop i xs) ≡ first_job but (i + d + 1) (drop (i + d) xs)
 jobs_by but xs zero i rest = let e : i + 0 ≡ i = omega arith in sym (ap (λ n. first_job but (n + 1) (drop n xs)) e)
 jobs_by but xs (suc d) i rest =
     let e : i + 1 + d ≡ i + suc d = omega arith in
@@ -170,10 +170,10 @@ readies_by c but xs (suc d) i rest =
     ∙ readies_by c but xs d (i + 1) (λ j x a b g. rest j x (omega (arith, a)) (omega (arith, b)) g)
     ∙ ap (λ n. first_ready c but (n + 1) (drop n xs)) e
 
-pub jobs_on : (but : List ℕ) (xs : List Worker) (i k : ℕ) → i ≤ k → AreAtRest xs i k → first_job but (i + 1) (drop i xs) ≡ first_job but (k + 1) (drop k xs)
+pub jobs_on : (but : List ℕ) (xs : List Worker) (i k : ℕ) → i ≤ k → HaveNoneOut xs i k → first_job but (i + 1) (drop i xs) ≡ first_job but (k + 1) (drop k xs)
 jobs_on but xs i k h rest =
     let e : i + (k - i) ≡ k = omega (arith, h) in
-    jobs_by but xs (k - i) i (subst (λ n. AreAtRest xs i n) (sym e) rest) ∙ ap (λ n. first_job but (n + 1) (drop n xs)) e
+    jobs_by but xs (k - i) i (subst (λ n. HaveNoneOut xs i n) (sym e) rest) ∙ ap (λ n. first_job but (n + 1) (drop n xs)) e
 
 pub readies_on : (c : ClusterState) (but : List ℕ) (xs : List Worker) (i k : ℕ) → i ≤ k → AreAtRest xs i k →
     first_ready c but (i + 1) (drop i xs) ≡ first_ready c but (k + 1) (drop k xs)

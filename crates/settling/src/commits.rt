@@ -41,7 +41,7 @@ pub fn first_job(workers: &Workers, but: &Seq<WorkerId>) -> Option<u64>
     let mut place = 0;
     for turn in 0..count {
         let _ = turn;
-        let next = workers.next(place);
+        let next = workers.next_out(place);
         if next >= count {
             return None;
         }

@@ -1,6 +1,6 @@
 // A run's state, how it begins, and what an event adds to it.
 
-ghost use Rattle.std.specs.Prelude.{◌≡◌, ◌++◌, ◌∷◌, IfOk, OnOk, OnErr, take, true};
+ghost use Rattle.std.specs.Prelude.{◌≡◌, ◌++◌, ◌∷◌, [], IfOk, OnOk, OnErr, take, true};
 ghost use Rattle.event_log.specs.Legal.{opening};
 ghost use Rattle.protocol_core.specs.Clusters.{IsCluster};
 ghost use Rattle.protocol_core.specs.States.{first_state, nothing_left};
@@ -63,6 +63,19 @@ fn cut(log: &mut Seq<Entry>, count: usize)
     log.items.truncate(count);
 }
 
+/// Adds the entry at the end. Where there is room it is written there at once, with no call to which it would be handed.
+#[inline(always)]
+fn add_own(log: &mut Seq<Entry>, own: Entry) -> Result<(), AllocError>
+    ensures ok { OnOk result (log.new ≡ log.old ++ own ∷ []) }
+    ensures err { OnErr result (log.new ≡ log.old) }
+{
+    if log.items.len() < log.items.capacity() {
+        log.items.push_reserved(own);
+        return Ok(());
+    }
+    log.push(own)
+}
+
 /// Adds an entry, and moves more of them behind it. On an error the log is as it was.
 #[tactic(auto, using(crate::proofs::Adding::added, crate::proofs::Adding::cut_back))]
 fn add_both(log: &mut Seq<Entry>, own: Entry, more: &mut Seq<Entry>) -> Result<(), AllocError>
@@ -70,7 +83,7 @@ fn add_both(log: &mut Seq<Entry>, own: Entry, more: &mut Seq<Entry>) -> Result<(
     ensures err { OnErr result (log.new ≡ log.old) }
 {
     let count = log.len();
-    log.push(own)?;
+    add_own(log, own)?;
     if let Err(error) = log.append(more) {
         cut(log, count);
         return Err(error);

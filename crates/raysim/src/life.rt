@@ -171,11 +171,11 @@ impl<'a, R: Eprint + AllocGlobal + Clock> Life<'a, R> {
             self.line.write(text.as_str(), passed);
         }
     }
-}
 
-impl<R: Eprint + AllocGlobal + Clock> Watcher for Life<'_, R> {
-    fn look(&mut self, log: &[Entry]) {
-        if !self.is_watching() || self.seen >= log.len() {
+    /// Looks at what is new in the log, where there is anything.
+    #[inline(never)]
+    fn look_on(&mut self, log: &[Entry]) {
+        if self.seen >= log.len() {
             return;
         }
         let more = &log[self.seen..];
@@ -186,6 +186,15 @@ impl<R: Eprint + AllocGlobal + Clock> Watcher for Life<'_, R> {
         }
         if let Some(passed) = self.line.due() {
             self.tell(passed);
+        }
+    }
+}
+
+impl<R: Eprint + AllocGlobal + Clock> Watcher for Life<'_, R> {
+    #[inline(always)]
+    fn look(&mut self, log: &[Entry]) {
+        if self.is_watching() {
+            self.look_on(log);
         }
     }
 

@@ -14,6 +14,7 @@ use protocol_data::{Endpoint, Envelope, Message, Phase, Worker, WorkerContext};
 use std::alloc::{AllocError, Global};
 
 /// One more entry.
+#[inline(always)]
 pub fn log(here: &mut WorkerContext, entry: Entry) -> Result<(), AllocError>
     ensures { OnOk result (here.new ≡ logs here.old entry) }
 {
@@ -21,6 +22,7 @@ pub fn log(here: &mut WorkerContext, entry: Entry) -> Result<(), AllocError>
 }
 
 /// The worker sends a message to a worker.
+#[inline(always)]
 pub fn say(here: &mut WorkerContext, worker: WorkerId, message: Message) -> Result<(), AllocError>
     ensures { OnOk result (here.new ≡ says here.old worker message) }
 {
@@ -36,6 +38,7 @@ pub fn say(here: &mut WorkerContext, worker: WorkerId, message: Message) -> Resu
 }
 
 /// The worker sends a message to a node.
+#[inline(always)]
 pub fn say_to_node(
     here: &mut WorkerContext,
     node: NodeId,

@@ -18,6 +18,9 @@ use worker_steps::main_attempt;
 /// How many messages a run has room for from its start: as many as make a list that isn't copied where it grows, as the log's entries do.
 const MESSAGES: usize = 2048;
 
+/// How many jobs a run has room for from its start, for the same reason.
+const JOBS: usize = 2048;
+
 /// How many objects main's worker has room for from its start, for the same reason.
 const OBJECTS: usize = 1024;
 
@@ -114,13 +117,17 @@ pub fn first_whole(alloc: Global, nodes: u8, slots: u8) -> Result<ClusterState, 
     workers.push(Boxed::new(alloc, driver(alloc)?)?)?;
     let mut network = Seq::new(alloc);
     network.items.reserve(MESSAGES)?;
+    let mut delivered = Seq::new(alloc);
+    delivered.items.reserve(MESSAGES)?;
+    let mut jobs = Seq::new(alloc);
+    jobs.items.reserve(JOBS)?;
     Ok(ClusterState {
         slots,
         nodes: all,
         workers,
         made: 1,
         network,
-        delivered: Seq::new(alloc),
-        jobs: Seq::new(alloc),
+        delivered,
+        jobs,
     })
 }

@@ -17,6 +17,7 @@ fn origins(alloc: Global, births: Vec<Birth>) -> Result<Seq<SharedBirth>, AllocE
     ensures { IfOk result (λ all. all ≡ map birth_of births.items) }
 {
     let mut all = Seq::new(alloc);
+    all.items.reserve(births.len())?;
     for birth in births {
         all.push(SharedBirth::new(alloc, birth)?)?;
     }
@@ -27,6 +28,7 @@ fn printed(alloc: Global, values: Vec<RunValue>) -> Result<Seq<Printed>, AllocEr
     ensures { IfOk result (λ all. all ≡ map value_of values.items) }
 {
     let mut all = Seq::new(alloc);
+    all.items.reserve(values.len())?;
     for inner in values {
         all.push(Printed { inner })?;
     }
@@ -37,6 +39,7 @@ fn ended(alloc: Global, contents: Vec<Content>) -> Result<Seq<SharedContent>, Al
     ensures { IfOk result (λ all. all ≡ map content_of contents.items) }
 {
     let mut all = Seq::new(alloc);
+    all.items.reserve(contents.len())?;
     for content in contents {
         all.push(SharedContent::new(alloc, content)?)?;
     }

@@ -1,6 +1,6 @@
 // The command `run` on one thread: a script's run that is driven to its end, and its report.
 
-ghost use Rattle.std.specs.Prelude.{◌≡◌, IfOk, IfErr, IfSome, string_bytes};
+ghost use Rattle.std.specs.Prelude.{◌≡◌, [], IfOk, IfErr, IfSome, string_bytes};
 ghost use Rattle.script_check.specs.Trees.{script_of};
 ghost use Rattle.script_commands.specs.Scripts.{IsUnwritten};
 ghost use Rattle.run_commands.specs.RunReports.{ExplainsRun, IsReportOf, IsRunBegun, IsRunReported, IsRunStop};
@@ -17,6 +17,18 @@ use segment::{Compiled, ScriptName};
 use sequence::Seq;
 use std::alloc::Global;
 use std::marker::Brand;
+
+/// For how many events the counts of messages have room from the start: a list that grows is copied.
+const EVENTS: usize = 4096;
+
+/// No count yet; there is room for some where there is memory for it.
+fn no_counts(alloc: Global) -> Seq<usize>
+    ensures { result ≡ [] }
+{
+    let mut sent = Seq::new(alloc);
+    let _ = sent.items.reserve(EVENTS);
+    sent
+}
 
 /// What is written of a script's run, which is driven to its end.
 fn run_script<S: ScriptName, L: Watcher>(
@@ -36,7 +48,7 @@ fn run_script<S: ScriptName, L: Watcher>(
         Err(_) => return Err(CommandRefusal::NoMemory),
     };
     let mut board = Board::new(core);
-    let mut sent = Seq::new(alloc);
+    let mut sent = no_counts(alloc);
     if let Err(refusal) = drive(alloc, &mut board, &mut sent, script, watcher) {
         drop(board);
         return Err(run_refusal(refusal));

@@ -1,10 +1,9 @@
 -- What a report says of attempts.
 use Rattle.std.specs.Prelude.{◌≡◌, ℕ, Bool, true, false, if◌then◌else◌, List, [], ◌∷◌, ◌++◌, codes}
-use Rattle.std.specs.List.{list_any}
 use Rattle.std.specs.Fmt.{decimal}
-use Rattle.indexmap.specs.IndexSet.{IndexSet}
 use Rattle.event_log.specs.Entries.{Attempt, Entry, Begun, main_attempt}
 use Rattle.event_log.specs.Words.{same_attempt, accepts_of, ends_of, faults_of}
+use Rattle.report_lines.specs.Sets.{has}
 use Rattle.report_lines.specs.Texts.{attempt_text}
 use Rattle.report_lines.specs.declared.attempts.AttemptStates.{AttemptStates}
 
@@ -30,10 +29,6 @@ attempt_line log a w = codes "attempt " ++ (attempt_text a ++ (codes " w" ++ (de
 abbrev pub attempt_in : List Entry → Entry → List ℕ
 attempt_in log (Begun a w) = if same_attempt a main_attempt then [] else attempt_line log a w
 attempt_in log _ = []
-
--- whether the attempt is in a set
-abbrev pub has : {S : Type 0} → IndexSet Attempt S → Attempt → Bool
-has set a = list_any (λ b. same_attempt a b) set.keys
 
 -- the sets have the attempts that the log accepts, ends and faults
 pub record AreStatesOf (states : AttemptStates) (log : List Entry) : Type 0 where

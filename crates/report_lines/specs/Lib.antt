@@ -1,5 +1,6 @@
 pub mod Texts
 pub mod Main
+pub mod Sets
 pub mod Attempts
 pub mod Objects
 pub mod Refusals

@@ -4,36 +4,22 @@ ghost use Rattle.std.specs.Prelude.{◌≡◌, ◌++◌, ◌||◌, List, [], OnO
 ghost use Rattle.std.specs.List.{flat_map};
 ghost use Rattle.ids.specs.Attempts.{Attempt};
 ghost use Rattle.event_log.specs.Entries as logged;
-ghost use Rattle.event_log.specs.Words.{same_attempt, accepted_in, ended_in, faulted_in};
-ghost use Rattle.report_lines.specs.Attempts.{any, attempt_in, has, state_of, AreStatesOf};
+ghost use Rattle.event_log.specs.Words.{accepted_in, ended_in, faulted_in};
+ghost use Rattle.report_lines.specs.Attempts.{any, attempt_in, state_of, AreStatesOf};
+ghost use Rattle.report_lines.specs.Sets.{has};
 
+use crate::attempt_set::AttemptSet;
 use crate::main_end::is_main;
 use ids::AttemptId;
-use indexmap::IndexSet;
 use log_entries::Entry;
 use std::alloc::{AllocError, Global};
 
 /// Which attempts were accepted, which ended, and which met a fault.
 #[derive(Drop)]
 pub struct AttemptStates {
-    accepted: IndexSet<AttemptId>,
-    ended: IndexSet<AttemptId>,
-    faulted: IndexSet<AttemptId>,
-}
-
-#[tactic(auto, unfolding(ids::specs::Attempts::same_attempt, meaning::specs::Births::same_id))]
-fn add(attempts: &mut IndexSet<AttemptId>, attempt: AttemptId) -> Result<(), AllocError>
-    ensures { OnOk result ((a : Attempt) → has attempts.new a ≡ (has attempts.old a || same_attempt a attempt)) }
-{
-    attempts.insert(attempt)?;
-    Ok(())
-}
-
-#[tactic(auto, unfolding(ids::specs::Attempts::same_attempt, meaning::specs::Births::same_id))]
-fn is_among(attempts: &IndexSet<AttemptId>, attempt: AttemptId) -> bool
-    ensures { result ≡ has attempts.now attempt }
-{
-    attempts.contains(&attempt)
+    accepted: AttemptSet,
+    ended: AttemptSet,
+    faulted: AttemptSet,
 }
 
 impl AttemptStates {
@@ -42,9 +28,9 @@ impl AttemptStates {
         ensures { AreStatesOf result [] }
     {
         AttemptStates {
-            accepted: IndexSet::new(alloc),
-            ended: IndexSet::new(alloc),
-            faulted: IndexSet::new(alloc),
+            accepted: AttemptSet::new(alloc),
+            ended: AttemptSet::new(alloc),
+            faulted: AttemptSet::new(alloc),
         }
     }
 
@@ -58,9 +44,9 @@ impl AttemptStates {
             has self.new.faulted a ≡ (has self.old.faulted a || any (faulted_in a entry.now))) }
     {
         match entry {
-            Entry::Accepted(attempt) => add(&mut self.accepted, *attempt),
-            Entry::Ended { attempt, .. } => add(&mut self.ended, *attempt),
-            Entry::Faulted { attempt, .. } => add(&mut self.faulted, *attempt),
+            Entry::Accepted(attempt) => self.accepted.add(*attempt),
+            Entry::Ended { attempt, .. } => self.ended.add(*attempt),
+            Entry::Faulted { attempt, .. } => self.faulted.add(*attempt),
             _ => Ok(()),
         }
     }
@@ -80,13 +66,13 @@ impl AttemptStates {
     pub fn name(&self, attempt: AttemptId) -> &'static str
         ensures { (log : List logged.Entry) → AreStatesOf self.now log → result.now ≡ state_of log attempt }
     {
-        if is_among(&self.accepted, attempt) {
+        if self.accepted.has(attempt) {
             return "accepted";
         }
-        if is_among(&self.ended, attempt) {
+        if self.ended.has(attempt) {
             return "ended";
         }
-        if is_among(&self.faulted, attempt) {
+        if self.faulted.has(attempt) {
             return "faulted";
         }
         "open"

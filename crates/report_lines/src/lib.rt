@@ -2,6 +2,7 @@
 //! events were refused.
 #![tactic(auto)]
 
+mod attempt_set;
 mod attempts;
 mod faults;
 pub mod main_end;

@@ -1,6 +1,7 @@
 use Rattle.std.proofs.Common.{◌||◌, ap, sym, ◌∙◌}
 use Rattle.event_log.specs.Words.{accepted_in, ended_in, faulted_in}
-use Rattle.report_lines.specs.Attempts.{any, has}
+use Rattle.report_lines.specs.Attempts.{any}
+use Rattle.report_lines.specs.Sets.{has}
 use Rattle.report_lines.proofs.Said.{said, on_ok}
 use Rattle.report_lines.proofs.attempts.AttemptStates.note.Goals as goal
 

@@ -1,0 +1,179 @@
+// A set of attempts. Most are the first of an object that has a low serial of a low owner: a table tells of those.
+
+ghost use Rattle.std.specs.Prelude.{◌≡◌, ◌<◌, ◌==◌, ◌&&◌, ◌||◌, ℕ, OnOk, false, length, true};
+ghost use Rattle.std.specs.List.{list_any};
+ghost use Rattle.ids.specs.Attempts.{Attempt, same_attempt};
+ghost use Rattle.meaning.specs.Births.{same_id};
+ghost use Rattle.meaning.specs.Values.{Id};
+ghost use Rattle.report_lines.specs.Sets.{can_be_marked, has, is_marked, is_set, row_of};
+
+use ids::{AttemptId, ObjectId};
+use indexmap::IndexSet;
+use sequence::Seq;
+use std::alloc::{AllocError, Global};
+
+/// Objects of higher owners have no mark in the table.
+const MOST_OWNERS: u32 = 4096;
+/// Those of higher serials have none.
+const MOST_SERIALS: u64 = 16_777_216;
+/// A row is lengthened by so many marks at most for one attempt, so that few attempts don't take much memory.
+const MOST_ADDED: usize = 256;
+
+/// A set of attempts.
+#[derive(Drop)]
+pub struct AttemptSet {
+    /// By owner and serial: whether the object's attempt 0 was added there.
+    firsts: Seq<Seq<bool>>,
+    /// The attempts that were not added there.
+    others: IndexSet<AttemptId>,
+}
+
+fn is_set(row: &Seq<bool>, place: usize) -> bool
+    ensures { result ≡ is_set row.now place }
+{
+    if place >= row.len() {
+        return false;
+    }
+    *row.get(place)
+}
+
+fn is_marked(rows: &Seq<Seq<bool>>, object: ObjectId) -> bool
+    ensures { result ≡ is_marked rows.now object }
+{
+    let owner = object.owner.0 as usize;
+    if owner >= rows.len() {
+        return false;
+    }
+    is_set(rows.get(owner), object.serial as usize)
+}
+
+fn can_be_marked(object: ObjectId) -> bool
+    ensures { result ≡ can_be_marked object }
+{
+    object.owner.0 < MOST_OWNERS && object.serial < MOST_SERIALS
+}
+
+/// How long the owner's row is.
+fn row_len(rows: &Seq<Seq<bool>>, owner: usize) -> usize {
+    if owner >= rows.len() {
+        return 0;
+    }
+    rows.get(owner).len()
+}
+
+/// Whether the object is to be marked in the table: its row has its place, or comes close to it.
+fn is_near(rows: &Seq<Seq<bool>>, object: ObjectId) -> bool
+    ensures { result ≡ true → can_be_marked object ≡ true }
+{
+    if !can_be_marked(object) {
+        return false;
+    }
+    let len = row_len(rows, object.owner.0 as usize);
+    let serial = object.serial as usize;
+    serial < len || serial - len < MOST_ADDED
+}
+
+/// The row goes up to that place.
+fn lengthen_row(row: &mut Seq<bool>, place: usize) -> Result<(), AllocError>
+    requires { place < 16777216 }
+    ensures long { OnOk result (place < length row.new) }
+    ensures kept { (n : ℕ) → is_set row.new n ≡ is_set row.old n }
+{
+    let len = row.len();
+    for at in len..place + 1 {
+        let _ = at;
+        row.push(false)?;
+    }
+    Ok(())
+}
+
+/// There is a row for each owner up to that one.
+fn lengthen(rows: &mut Seq<Seq<bool>>, owner: usize) -> Result<(), AllocError>
+    requires { owner < 4096 }
+    ensures long { OnOk result (owner < length rows.new) }
+    ensures kept { (i : ℕ) → row_of rows.new i ≡ row_of rows.old i }
+{
+    let alloc = *rows.items.allocator();
+    let len = rows.len();
+    for at in len..owner + 1 {
+        let _ = at;
+        rows.push(Seq::new(alloc))?;
+    }
+    Ok(())
+}
+
+fn set_in(row: &mut Seq<bool>, place: usize) -> Result<(), AllocError>
+    requires { place < 16777216 }
+    ensures { OnOk result ((n : ℕ) → is_set row.new n ≡ (is_set row.old n || (n == place))) }
+{
+    lengthen_row(row, place)?;
+    row.set(place, true);
+    Ok(())
+}
+
+fn mark_at(rows: &mut Seq<Seq<bool>>, owner: usize, serial: usize) -> Result<(), AllocError>
+    requires owner { owner < length rows.old }
+    requires serial { serial < 16777216 }
+    ensures { OnOk result ((i n : ℕ) → is_set (row_of rows.new i) n ≡ (is_set (row_of rows.old i) n || ((i == owner) && (n == serial)))) }
+{
+    let row = &mut rows.items[owner];
+    set_in(row, serial)
+}
+
+#[tactic(auto, unfolding(meaning::specs::Births::same_id))]
+fn mark(rows: &mut Seq<Seq<bool>>, object: ObjectId) -> Result<(), AllocError>
+    requires { can_be_marked object ≡ true }
+    ensures { OnOk result ((o : Id) → is_marked rows.new o ≡ (is_marked rows.old o || same_id o object)) }
+{
+    let owner = object.owner.0 as usize;
+    lengthen(rows, owner)?;
+    mark_at(rows, owner, object.serial as usize)
+}
+
+/// Whether the attempt is the first of an object that the table has.
+fn is_first_marked(rows: &Seq<Seq<bool>>, attempt: AttemptId) -> bool
+    ensures { result ≡ ((attempt.number == 0) && is_marked rows.now attempt.object) }
+{
+    attempt.number == 0 && is_marked(rows, attempt.object)
+}
+
+#[tactic(auto, unfolding(ids::specs::Attempts::same_attempt, meaning::specs::Births::same_id))]
+fn is_among(attempts: &IndexSet<AttemptId>, attempt: AttemptId) -> bool
+    ensures { result ≡ list_any (λ a. same_attempt attempt a) attempts.now.keys }
+{
+    attempts.contains(&attempt)
+}
+
+impl AttemptSet {
+    /// The empty set.
+    pub fn new(alloc: Global) -> AttemptSet
+        ensures { (a : Attempt) → has result a ≡ false }
+    {
+        AttemptSet {
+            firsts: Seq::new(alloc),
+            others: IndexSet::new(alloc),
+        }
+    }
+
+    /// Adds an attempt.
+    #[tactic(auto, unfolding(ids::specs::Attempts::same_attempt, meaning::specs::Births::same_id))]
+    pub fn add(&mut self, attempt: AttemptId) -> Result<(), AllocError>
+        ensures { OnOk result ((a : Attempt) → has self.new a ≡ (has self.old a || same_attempt a attempt)) }
+    {
+        if attempt.number == 0 && is_near(&self.firsts, attempt.object) {
+            return mark(&mut self.firsts, attempt.object);
+        }
+        self.others.insert(attempt)?;
+        Ok(())
+    }
+
+    /// Whether the attempt is in the set.
+    pub fn has(&self, attempt: AttemptId) -> bool
+        ensures { result ≡ has self.now attempt }
+    {
+        if is_first_marked(&self.firsts, attempt) {
+            return true;
+        }
+        is_among(&self.others, attempt)
+    }
+}

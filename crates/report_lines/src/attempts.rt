@@ -5,12 +5,12 @@ ghost use Rattle.std.specs.List.{flat_map};
 ghost use Rattle.ids.specs.Attempts.{Attempt};
 ghost use Rattle.event_log.specs.Entries as logged;
 ghost use Rattle.event_log.specs.Words.{accepted_in, ended_in, faulted_in};
-ghost use Rattle.report_lines.specs.Attempts.{any, attempt_in, state_of, AreStatesOf};
+ghost use Rattle.report_lines.specs.Attempts.{any, attempt_in, attempt_line, state_of, AreStatesOf};
 ghost use Rattle.report_lines.specs.Sets.{has};
 
 use crate::attempt_set::AttemptSet;
 use crate::main_end::is_main;
-use ids::AttemptId;
+use ids::{AttemptId, WorkerId};
 use log_entries::Entry;
 use std::alloc::{AllocError, Global};
 
@@ -24,7 +24,7 @@ pub struct AttemptStates {
 
 impl AttemptStates {
     /// The states of a log with no entries.
-    fn new(alloc: Global) -> AttemptStates
+    pub(crate) fn new(alloc: Global) -> AttemptStates
         ensures { AreStatesOf result [] }
     {
         AttemptStates {
@@ -35,7 +35,7 @@ impl AttemptStates {
     }
 
     /// Notes what the entry says of an attempt.
-    fn note(&mut self, entry: &Entry) -> Result<(), AllocError>
+    pub(crate) fn note(&mut self, entry: &Entry) -> Result<(), AllocError>
         ensures accepted { OnOk result ((a : Attempt) →
             has self.new.accepted a ≡ (has self.old.accepted a || any (accepted_in a entry.now))) }
         ensures ended { OnOk result ((a : Attempt) →
@@ -79,8 +79,29 @@ impl AttemptStates {
     }
 }
 
-/// Writes `attempt a1.1#0 w2 accepted` where the entry begins another attempt than main's.
-fn write_attempt(text: &mut String, states: &AttemptStates, entry: &Entry) -> Result<(), AllocError>
+/// Writes `attempt a1.1#0 w2 accepted`, with that word for the attempt's state. One format has all: with those of ids in it, it would come in more pieces.
+fn write_line(
+    text: &mut String,
+    attempt: AttemptId,
+    worker: WorkerId,
+    state: &str,
+) -> Result<(), AllocError>
+    ensures { (log : List logged.Entry) → state.now ≡ state_of log attempt → OnOk result
+        (string_bytes text.new ≡ string_bytes text.old ++ attempt_line log attempt worker) }
+{
+    let owner = attempt.object.owner.0;
+    let serial = attempt.object.serial;
+    let number = attempt.number;
+    let worker = worker.0;
+    writeln!(text, "attempt a{owner}.{serial}#{number} w{worker} {state}")
+}
+
+/// Writes a line where the entry begins another attempt than main's.
+pub fn write_attempt(
+    text: &mut String,
+    states: &AttemptStates,
+    entry: &Entry,
+) -> Result<(), AllocError>
     ensures { (log : List logged.Entry) → AreStatesOf states.now log → OnOk result
         (string_bytes text.new ≡ string_bytes text.old ++ attempt_in log entry.now) }
 {
@@ -90,8 +111,7 @@ fn write_attempt(text: &mut String, states: &AttemptStates, entry: &Entry) -> Re
     if is_main(*attempt) {
         return Ok(());
     }
-    let state = states.name(*attempt);
-    writeln!(text, "attempt {attempt} {worker} {state}")
+    write_line(text, *attempt, *worker, states.name(*attempt))
 }
 
 /// Writes a line for each attempt but main's, in the order of their beginnings.

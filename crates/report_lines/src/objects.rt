@@ -9,7 +9,7 @@ use log_entries::Entry;
 use std::alloc::AllocError;
 
 /// Writes `resolved o1.2 PutLost o1.1` where the entry is a resolve.
-fn write_resolve(text: &mut String, entry: &Entry) -> Result<(), AllocError>
+pub fn write_resolve(text: &mut String, entry: &Entry) -> Result<(), AllocError>
     ensures { OnOk result (string_bytes text.new ≡ string_bytes text.old ++ resolve_in entry.now) }
 {
     let Entry::Resolved { object, fault } = entry else {
@@ -31,13 +31,14 @@ pub fn write_resolves(text: &mut String, log: &[Entry]) -> Result<(), AllocError
 }
 
 /// Writes `released o1.2` where the entry is a release.
-fn write_release(text: &mut String, entry: &Entry) -> Result<(), AllocError>
+pub fn write_release(text: &mut String, entry: &Entry) -> Result<(), AllocError>
     ensures { OnOk result (string_bytes text.new ≡ string_bytes text.old ++ release_in entry.now) }
 {
     let Entry::Released(object) = entry else {
         return Ok(());
     };
-    writeln!(text, "released {object}")
+    let (owner, serial) = (object.owner.0, object.serial);
+    writeln!(text, "released o{owner}.{serial}")
 }
 
 /// Writes a line for each release of the log.

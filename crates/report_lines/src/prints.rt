@@ -9,7 +9,7 @@ use report::write_value;
 use std::alloc::AllocError;
 
 /// Writes `print 49` where the entry is a print.
-fn write_print(text: &mut String, entry: &Entry) -> Result<(), AllocError>
+pub fn write_print(text: &mut String, entry: &Entry) -> Result<(), AllocError>
     ensures { OnOk result (string_bytes text.new ≡ string_bytes text.old ++ print_in entry.now) }
 {
     let Entry::Printed(value) = entry else {

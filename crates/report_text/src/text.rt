@@ -1,13 +1,23 @@
 // The whole report of a log, its sections one after the other.
 
-ghost use Rattle.std.specs.Prelude.{◌≡◌, IfOk, string_bytes};
+ghost use Rattle.std.specs.Prelude.{◌≡◌, ◌++◌, [], IfOk, None, OnOk, false, string_bytes};
+ghost use Rattle.report_lines.specs.Refusals.{refused_lines};
 ghost use Rattle.report_text.specs.Report.{report_text};
 
 use report_lines::log_entries::Entry;
-use report_lines::{
-    write_attempts, write_main, write_prints, write_refusals, write_releases, write_resolves,
-};
+use report_lines::{write_main, write_outcomes, write_prints_and_note, write_refusals};
 use std::alloc::{AllocError, Global};
+
+/// Writes the last section, for which it goes over the log again only if an event was refused.
+fn write_if_refused(text: &mut String, refused: bool, log: &[Entry]) -> Result<(), AllocError>
+    requires { refused ≡ false → refused_lines None log.now ≡ [] }
+    ensures { OnOk result (string_bytes text.new ≡ string_bytes text.old ++ refused_lines None log.now) }
+{
+    if !refused {
+        return Ok(());
+    }
+    write_refusals(text, log)
+}
 
 /// The report of a log, in lines that each end with a line feed, each section in the order of the log: the prints
 /// (`print 49`), main's end (`main value 0`, `main trap DivZero`, `main fault OwnerDied o2.1` or `main open`), the
@@ -21,11 +31,9 @@ pub fn report_text(alloc: Global, log: &[Entry]) -> Result<String, AllocError>
     ensures { IfOk result (λ text. string_bytes text ≡ report_text log.now) }
 {
     let mut text = String::new(alloc);
-    write_prints(&mut text, log)?;
+    let noted = write_prints_and_note(alloc, &mut text, log)?;
     write_main(&mut text, log)?;
-    write_attempts(alloc, &mut text, log)?;
-    write_resolves(&mut text, log)?;
-    write_releases(&mut text, log)?;
-    write_refusals(&mut text, log)?;
+    write_outcomes(alloc, &mut text, &noted.states, log)?;
+    write_if_refused(&mut text, noted.refused, log)?;
     Ok(text)
 }

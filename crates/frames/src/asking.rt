@@ -31,7 +31,7 @@ fn mark_at(marks: &[bool], place: usize) -> bool
 fn mark(alloc: Global, values: &[Value], marks: &[bool]) -> Result<Vec<MarkedArgument>, AllocError>
     ensures { IfOk result (λ args. map argument_of args.items ≡ mark (map value_of values.now) marks.now) }
 {
-    let mut arguments = Vec::new(alloc);
+    let mut arguments = Vec::with_capacity(alloc, values.len())?;
     for value in values {
         let is_dereferenced = mark_at(marks, arguments.len());
         let value = value.share()?;
@@ -69,6 +69,14 @@ impl State {
             retries: spawn.retries,
             others: spawn.others,
         })
+    }
+
+    /// What a remote call bears, behind which the machine stands.
+    #[inline(always)]
+    pub(crate) fn spawned(&self, limit: usize, spawn: &Spawn) -> Result<Made, AllocError>
+        ensures { IfOk result (λ m. (code : laws.Code) → Met code limit self.now (spawn_of spawn.now) (Halt.Bears m (self.now.base + spawn.now.to))) }
+    {
+        self.task(limit, spawn)
     }
 
     /// A remote call.

@@ -39,6 +39,8 @@ pub struct Attempt {
 }
 
 /// An attempt that stopped before it did anything.
+#[cold]
+#[inline(never)]
 fn nothing_done(alloc: Global, halt: Halt) -> Attempt
     ensures births { result.births.items ≡ [] }
     ensures prints { result.prints.items ≡ [] }
@@ -55,7 +57,8 @@ fn nothing_done(alloc: Global, halt: Halt) -> Attempt
     }
 }
 
-/// What was done up to where it stopped, where as many calls may wait.
+/// What was done up to where it stopped, where as many calls may wait. It stands where it is called, so that what is large is moved once.
+#[inline(always)]
 pub(crate) fn stop(course: Course, halt: Halt, limit: usize) -> Result<Attempt, AllocError>
     ensures halts { IfOk result (λ a. (script : Script) (spec : Birth) (base : Id) (past : Past) →
         Stops script limit spec base past course halt → HaltsBehind script spec base past (answers_of course) a) }

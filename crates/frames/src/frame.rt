@@ -59,7 +59,7 @@ impl Frame {
             limit,
             steps,
         } = self;
-        let mut answers = Vec::new(alloc);
+        let mut answers = Vec::with_capacity(alloc, 1)?;
         answers.push(answer)?;
         let mut course = Course {
             state,

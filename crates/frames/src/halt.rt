@@ -91,6 +91,8 @@ impl<T: Drop> From<AllocFailed<T>> for Halt {
 
 /// The want of memory of a growth that is refused, as no memory has room for so many bytes. The machine stops by it where a place or an id has no
 /// number any more, since what comes so far is told as want of memory, and that is to come of a growth alone.
+#[cold]
+#[inline(never)]
 pub(crate) fn refused_growth(alloc: Global) -> Halt
     ensures { result ≡ Halt.NoMemory }
 {

@@ -21,11 +21,15 @@ use frame_code::Code;
 use ids::ObjectId;
 use std::alloc::{AllocError, Global};
 
+/// So many registers have room behind a task's first ones, that few tasks need more memory for theirs.
+const ROOM: usize = 6;
+
 /// A task's first registers: its arguments, and then their marks.
 fn first_registers(alloc: Global, arguments: &[MarkedArgument]) -> Result<Vec<Value>, AllocError>
     ensures { IfOk result (λ rs. map value_of rs.items ≡ values_in (map argument_of arguments.now) ++ marks_in (map argument_of arguments.now)) }
 {
-    let mut registers = Vec::new(alloc);
+    let count = arguments.len().saturating_mul(2).saturating_add(ROOM);
+    let mut registers = Vec::with_capacity(alloc, count)?;
     for argument in arguments {
         registers.push(argument.value.share()?)?;
     }

@@ -81,7 +81,7 @@ pub(crate) fn from_content(alloc: Global, content: &Content) -> Result<Outcome, 
 pub(crate) fn from_contents(alloc: Global, contents: &[Content]) -> Result<Vec<Outcome>, AllocError>
     ensures { IfOk result (λ cs. map outcome_of cs.items ≡ map content_of contents.now) }
 {
-    let mut outcomes = Vec::new(alloc);
+    let mut outcomes = Vec::with_capacity(alloc, contents.len())?;
     for content in contents {
         outcomes.push(from_content(alloc, content)?)?;
     }
@@ -95,7 +95,7 @@ pub(crate) fn from_arguments(
 ) -> Result<Vec<MarkedArgument>, AllocError>
     ensures { IfOk result (λ args. map argument_of args.items ≡ map task_argument arguments.now) }
 {
-    let mut copies = Vec::new(alloc);
+    let mut copies = Vec::with_capacity(alloc, arguments.len())?;
     for argument in arguments {
         let value = from_value(alloc, &argument.value)?;
         copies.push(MarkedArgument {
@@ -162,7 +162,7 @@ pub(crate) fn to_values(alloc: Global, values: &[Value]) -> Result<Vec<RunValue>
     ensures kind { IfErr result (λ e. e ≡ ConversionError.Broken → ⊥) }
     ensures plain { IfErr result (λ e. e ≡ ConversionError.HasOutcome → EachTaskValue (map value_of values.now) → ⊥) }
 {
-    let mut copies = Vec::new(alloc);
+    let mut copies = Vec::with_capacity(alloc, values.len())?;
     for value in values {
         copies.push(to_value(alloc, value)?)?;
     }
@@ -178,7 +178,7 @@ fn to_arguments(
     ensures kind { IfErr result (λ e. e ≡ ConversionError.Broken → ⊥) }
     ensures plain { IfErr result (λ e. e ≡ ConversionError.HasOutcome → AreTaskArguments (map argument_of arguments.now) → ⊥) }
 {
-    let mut copies = Vec::new(alloc);
+    let mut copies = Vec::with_capacity(alloc, arguments.len())?;
     for argument in arguments {
         let value = to_value(alloc, &argument.value)?;
         copies.push(task_spec::Argument {

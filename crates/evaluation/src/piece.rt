@@ -1,6 +1,6 @@
 // A piece of a task's run.
 
-ghost use Rattle.std.specs.Prelude.{◌≡◌, ◌≤◌, ◌∷◌, [], IfOk, IfErr, None, Some, drop, map, true};
+ghost use Rattle.std.specs.Prelude.{◌≡◌, ◌≤◌, ◌∷◌, ◌++◌, [], IfOk, OnOk, IfErr, None, Some, drop, map, true};
 ghost use Rattle.meaning.specs.Values as meant;
 ghost use Rattle.meaning.specs.Values.{Id, Val, Trapped, Broken, Returned, Aborted, first_outcome, outcomes, others_of};
 ghost use Rattle.meaning.specs.Runs.{Over, stopped};
@@ -88,6 +88,19 @@ impl<T: Drop> From<AllocFailed<T>> for PieceError {
     }
 }
 
+/// Adds a content at the end. Where there is room, as in a list that was made for so many, it is put there with no call.
+#[inline(always)]
+fn add(contents: &mut Vec<Content>, content: Content) -> Result<(), AllocError>
+    ensures { OnOk result (contents.new.items ≡ contents.old.items ++ content ∷ []) }
+{
+    if contents.len() < contents.capacity() {
+        contents.push_reserved(content);
+        return Ok(());
+    }
+    contents.push(content)?;
+    Ok(())
+}
+
 /// The content of the result at a place, as tasks have it. It is broken where the run has no such result.
 fn content_at(alloc: Global, values: &[Value], place: usize) -> Result<Content, ConversionError>
     ensures value { IfOk result (λ c. content_of c ≡ first_outcome (Returned (map run_value_of (drop place values.now)))) }
@@ -111,20 +124,21 @@ fn of_values(alloc: Global, values: &[Value], count: usize) -> Result<Vec<Conten
     ensures plain { IfErr result (λ e. e ≡ ConversionError.HasOutcome →
         AreTaskOutcomes (outcomes count (Returned (map run_value_of values.now))) → ⊥) }
 {
-    let mut contents = Vec::new(alloc);
+    let mut contents = Vec::with_capacity(alloc, count)?;
     for place in 0..count {
-        contents.push(content_at(alloc, values, place)?)?;
+        add(&mut contents, content_at(alloc, values, place)?)?;
     }
     Ok(contents)
 }
 
 /// A trap, as the content of each of so many results.
+#[inline(never)]
 fn of_trap(alloc: Global, trap: Trap, count: usize) -> Result<Vec<Content>, AllocError>
     ensures { IfOk result (λ cs. map content_of cs.items ≡ outcomes count (Aborted (trap_of trap))) }
 {
-    let mut contents = Vec::new(alloc);
+    let mut contents = Vec::with_capacity(alloc, count)?;
     for _ in 0..count {
-        contents.push(Content::Trap(trap))?;
+        add(&mut contents, Content::Trap(trap))?;
     }
     Ok(contents)
 }
@@ -208,6 +222,7 @@ fn finish(alloc: Global, attempt: Attempt, count: usize) -> Result<Box<Piece>, P
 }
 
 /// A put's piece: it ends with its value at once.
+#[inline(never)]
 fn put_piece(alloc: Global, value: &RunValue) -> Result<Box<Piece>, PieceError>
     ensures value { IfOk result (λ p. piece_of p.value ≡ stopped (Over (Val (value_of value.now) ∷ []))) }
     ensures frame { IfOk result (λ p. p.value.frame ≡ None) }

@@ -9,5 +9,5 @@ use Rattle.evaluation.proofs.convert.to_values.Goals as goal
 
 pub returns-in_err-to_value-clause-plain : goal.returns-in_err-to_value-clause-plain
 returns-in_err-to_value-clause-plain c =
-    handed_on (λ (e : ConversionError). e ≡ HasOutcome → EachTaskValue (map value_of c.args.values.now) → ⊥) c.from_residual.result c.in_err-to_value.field-0.0 c.from_residual.ensures.1
+    handed_on (λ (e : ConversionError). e ≡ HasOutcome → EachTaskValue (map value_of c.args.values.now) → ⊥) c.from_residual-in_err-to_value.result c.in_err-to_value.field-0.0 c.from_residual-in_err-to_value.ensures.1
     (λ e p. c.in_err-to_value.ensures.plain e (value_within c.args.values.now c.loop-value.value-index c.value-item.result c.loop-value-test.true c.value-item.is p))

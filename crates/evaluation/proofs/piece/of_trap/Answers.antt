@@ -6,8 +6,8 @@ use Rattle.evaluation.proofs.piece.of_trap.Goals as goal
 
 pub loop-preserved : goal.loop-preserved
 loop-preserved c =
-    contents_next c.loop.contents.items c.push.new.self.items _ (Aborted (trap_of c.args.trap)) (Aborted (trap_of c.args.trap)) c.args.count c.loop.counter _
-    c.loop-test.true c.in_ok-push.ensures.items refl refl c.loop.invariant
+    contents_next c.loop.contents.items c.add.new.contents.items _ (Aborted (trap_of c.args.trap)) (Aborted (trap_of c.args.trap)) c.args.count c.loop.counter _
+    c.loop-test.true c.in_ok-add.ensures refl refl c.loop.invariant
 
 pub returns : goal.returns
 returns c =

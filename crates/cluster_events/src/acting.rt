@@ -31,10 +31,10 @@ pub fn act(
     whole: &mut ClusterState,
     here: &mut WorkerContext,
     number: WorkerId,
-    what: &Act,
+    what: &mut Act,
 ) -> Result<(), AllocError>
-    ensures whole { OnOk result (whole.new ≡ (worker_does whole.old number (act_step whole.old.network what.now)).whole) }
-    ensures entries { OnOk result (here.new.there.out.entries ≡ (worker_does whole.old number (act_step whole.old.network what.now)).out.entries) }
+    ensures whole { OnOk result (whole.new ≡ (worker_does whole.old number (act_step whole.old.network what.old)).whole) }
+    ensures entries { OnOk result (here.new.there.out.entries ≡ (worker_does whole.old number (act_step whole.old.network what.old)).out.entries) }
 {
     let Some(place) = worker_place(whole, number) else {
         log_nothing(&mut here.there);
@@ -136,12 +136,12 @@ pub fn act_or_restore(
     whole: &mut ClusterState,
     here: &mut WorkerContext,
     number: WorkerId,
-    what: &Act,
+    what: &mut Act,
     made: u64,
 ) -> Result<bool, AllocError>
-    ensures whole { OnOk result (whole.new ≡ whole_within made whole.old (worker_does whole.old number (act_step whole.old.network what.now))) }
+    ensures whole { OnOk result (whole.new ≡ whole_within made whole.old (worker_does whole.old number (act_step whole.old.network what.old))) }
     ensures entries { IfOk result (λ taken. if_taken taken here.new.there.out.entries
-        ≡ entries_within made (worker_does whole.old number (act_step whole.old.network what.now))) }
+        ≡ entries_within made (worker_does whole.old number (act_step whole.old.network what.old))) }
 {
     let Some(place) = worker_place(whole, number) else {
         return Ok(nothing(whole, &mut here.there, made));

@@ -36,7 +36,7 @@ fn hand_over(
             if !is_live_worker(whole, worker) {
                 return Ok(nothing(whole, &mut here.there, made));
             }
-            let_act(alloc, whole, here, worker, &Act::Receive(number), made)
+            let_act(alloc, whole, here, worker, &mut Act::Receive(number), made)
         }
         Endpoint::TheNode(node) => {
             if !is_live_node(whole, node) {

@@ -32,7 +32,7 @@ fn tick(
     ensures whole { OnOk result (whole.new ≡ whole_limited whole.old (worker_does whole.old worker tick_step)) }
     ensures entries { IfOk result (λ taken. if_taken taken here.new.there.out.entries ≡ entries_limited (worker_does whole.old worker tick_step)) }
 {
-    let_worker_act(alloc, whole, here, worker, &Act::Tick)
+    let_worker_act(alloc, whole, here, worker, &mut Act::Tick)
 }
 
 /// The worker is told that the other is dead.
@@ -48,7 +48,7 @@ fn notice(
     ensures entries { IfOk result (λ taken. if_taken taken here.new.there.out.entries
         ≡ entries_limited (worker_does whole.old worker (λ h. notice_step h dead))) }
 {
-    let_worker_act(alloc, whole, here, worker, &Act::LearnWorkerDied(dead))
+    let_worker_act(alloc, whole, here, worker, &mut Act::LearnWorkerDied(dead))
 }
 
 /// The worker is told that the node is dead.
@@ -64,7 +64,7 @@ fn notice_node(
     ensures entries { IfOk result (λ taken. if_taken taken here.new.there.out.entries
         ≡ entries_limited (worker_does whole.old worker (λ h. notice_node_step h dead))) }
 {
-    let_worker_act(alloc, whole, here, worker, &Act::LearnNodeDied(dead))
+    let_worker_act(alloc, whole, here, worker, &mut Act::LearnNodeDied(dead))
 }
 
 /// What the event makes of the whole, with what is handed in: it is told whether it is taken. The entries that it adds behind its own are left in the

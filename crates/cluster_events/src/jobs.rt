@@ -49,7 +49,7 @@ pub fn claim(
 {
     let job = next_job(whole);
     let made = whole.made;
-    if !let_act(alloc, whole, here, worker, &Act::Claim(job), made)? {
+    if !let_act(alloc, whole, here, worker, &mut Act::Claim(job), made)? {
         return Ok(false);
     }
     add_job(whole, worker)?;
@@ -86,7 +86,7 @@ fn commit_outcomes(
     let Some(made) = with_made(whole.made, &outcomes.births) else {
         return Ok(false);
     };
-    if !let_act(alloc, whole, here, worker, &Act::Commit(outcomes), made)? {
+    if !let_act(alloc, whole, here, worker, &mut Act::Commit(outcomes), made)? {
         return Ok(false);
     }
     note_commit(whole, place, job, made);

@@ -20,12 +20,12 @@ pub fn let_act(
     whole: &mut ClusterState,
     here: &mut WorkerContext,
     number: WorkerId,
-    what: &Act,
+    what: &mut Act,
     made: u64,
 ) -> Result<bool, AllocError>
-    ensures whole { OnOk result (whole.new ≡ whole_within made whole.old (worker_does whole.old number (act_step whole.old.network what.now))) }
+    ensures whole { OnOk result (whole.new ≡ whole_within made whole.old (worker_does whole.old number (act_step whole.old.network what.old))) }
     ensures entries { IfOk result (λ taken. if_taken taken here.new.there.out.entries
-        ≡ entries_within made (worker_does whole.old number (act_step whole.old.network what.now))) }
+        ≡ entries_within made (worker_does whole.old number (act_step whole.old.network what.old))) }
 {
     if !fits(whole, 0, made) {
         return Ok(false);
@@ -44,11 +44,11 @@ pub fn let_worker_act(
     whole: &mut ClusterState,
     here: &mut WorkerContext,
     number: WorkerId,
-    what: &Act,
+    what: &mut Act,
 ) -> Result<bool, AllocError>
-    ensures whole { OnOk result (whole.new ≡ whole_limited whole.old (worker_does whole.old number (act_step whole.old.network what.now))) }
+    ensures whole { OnOk result (whole.new ≡ whole_limited whole.old (worker_does whole.old number (act_step whole.old.network what.old))) }
     ensures entries { IfOk result (λ taken. if_taken taken here.new.there.out.entries
-        ≡ entries_limited (worker_does whole.old number (act_step whole.old.network what.now))) }
+        ≡ entries_limited (worker_does whole.old number (act_step whole.old.network what.old))) }
 {
     let made = whole.made;
     let_act(alloc, whole, here, number, what, made)

@@ -9,8 +9,8 @@ use boxed_value::Boxed;
 use ids::{NodeId, WorkerId};
 use number_lists::place_of;
 use protocol_data::{
-    Asks, Attempts, ClusterState, Copies, IdleWorkers, Leases, Node, NodeContext, Objects, Outbox, Queue,
-    Scheduler, Secondaries, Store, Worker, WorkerContext,
+    Asks, Attempts, ClusterState, Copies, IdleWorkers, Leases, Node, NodeContext, Objects, Outbox,
+    Queue, Scheduler, Secondaries, Store, Worker, WorkerContext,
 };
 use sequence::Seq;
 use std::alloc::{AllocError, Global};

@@ -1,21 +1,23 @@
 // A commit: what a job came to.
 
-ghost use Rattle.std.specs.Prelude.{◌≡◌, ◌+◌, ◌++◌, IfOk, OnOk, Some, None};
-ghost use Rattle.protocol.specs.Steps.{with_run};
-ghost use Rattle.protocol.specs.Tables.{Out};
+ghost use Rattle.std.specs.Prelude.{◌≡◌, ◌+◌, ◌++◌, IfOk, IsTrue, OnOk, Some, None};
+ghost use Rattle.protocol.specs.Steps.{with_phase, with_run};
+ghost use Rattle.protocol.specs.Tables.{HasEnded, Out};
 ghost use Rattle.protocol.specs.Commits.{asks_where, claim_step, commit_step, ends, keeps_content, keeps_contents, needs, rests_if_waiting, stops, with_outcomes};
 ghost use Rattle.protocol_data.specs.declared.tables.Execution.{Execution};
+ghost use Rattle.commit_steps.specs.Plain.{ArePlain, IsPlain};
 
 use crate::births::{bear_all, next_id};
 use crate::logged::log_outcomes;
 use held::{Births, Printed, Prints, SharedBirth, SharedContent};
-use ids::ObjectId;
+use ids::{AttemptId, ObjectId};
 use object_store::put_end;
 use owner_steps::{id_behind, need_own};
 use protocol_data::{Message, Outcomes, Phase, Stopped, WorkerContext, copy_contents};
 use sequence::Seq;
 use std::alloc::{AllocError, Global};
-use values::{Fault, FaultKind};
+use std::mem;
+use values::{Content, Fault, FaultKind, RunValue};
 use worker_steps::{
     fault, give_slot_back, hold_ids, ids_in_content, is_own, is_waiting_for, knows_dead,
     leave_if_free, pass_on, say, set_phase,
@@ -95,18 +97,50 @@ fn keep_contents(
     Ok(())
 }
 
-/// The attempt ends, with a content for each result.
-fn end(
+/// Whether the content goes into no store, and has no ids in it.
+fn is_plain(content: &SharedContent) -> bool
+    ensures { IsTrue result → IsPlain content.now }
+{
+    match &*content.inner {
+        Content::Trap(_) => true,
+        Content::Value(value) => matches!(value, RunValue::Int(_)),
+    }
+}
+
+/// Whether each of these is so.
+fn are_plain(contents: &[SharedContent]) -> bool
+    ensures { IsTrue result → ArePlain contents.now }
+{
+    for content in contents {
+        if !is_plain(content) {
+            return false;
+        }
+    }
+    true
+}
+
+/// The attempt ends with plain contents, of which nothing is kept but by the attempt: it takes the list as it is.
+#[inline(always)]
+#[tactic(auto, using(crate::proofs::Contents::plain_kept))]
+fn end_plainly(alloc: Global, here: &mut WorkerContext, contents: &mut Seq<SharedContent>)
+    requires { ArePlain contents.old }
+    ensures { (run : Execution) → here.old.worker.run ≡ Some run →
+        here.new ≡ keeps_contents (with_phase here.old run (HasEnded contents.old)) run.attempt.object run.attempt.number contents.old }
+{
+    let kept = mem::replace(contents, Seq::new(alloc));
+    set_phase(here, Phase::HasEnded(kept));
+}
+
+/// The attempt ends with these contents, each of which its object keeps.
+fn end_keeping(
     alloc: Global,
     here: &mut WorkerContext,
+    attempt: AttemptId,
     contents: &Seq<SharedContent>,
 ) -> Result<(), AllocError>
-    ensures { (run : Execution) → here.old.worker.run ≡ Some run → OnOk result (here.new ≡ ends here.old run contents.now) }
+    ensures { (run : Execution) → here.old.worker.run ≡ Some run → run.attempt ≡ attempt → OnOk result
+        (here.new ≡ keeps_contents (with_phase here.old run (HasEnded contents.now)) run.attempt.object run.attempt.number contents.now) }
 {
-    let Some(run) = &here.worker.run else {
-        return Ok(());
-    };
-    let attempt = run.attempt;
     let kept = copy_contents(contents, alloc)?;
     set_phase(here, Phase::HasEnded(kept));
     keep_contents(
@@ -115,14 +149,45 @@ fn end(
         attempt.object,
         attempt.number,
         contents.as_slice(),
-    )?;
+    )
+}
+
+/// The attempt has ended with these contents, and each object has its own.
+fn set_ended(
+    alloc: Global,
+    here: &mut WorkerContext,
+    contents: &mut Seq<SharedContent>,
+) -> Result<(), AllocError>
+    ensures { (run : Execution) → here.old.worker.run ≡ Some run → OnOk result
+        (here.new ≡ keeps_contents (with_phase here.old run (HasEnded contents.old)) run.attempt.object run.attempt.number contents.old) }
+{
+    let Some(run) = &here.worker.run else {
+        return Ok(());
+    };
+    let attempt = run.attempt;
+    if are_plain(contents.as_slice()) {
+        end_plainly(alloc, here, contents);
+        return Ok(());
+    }
+    end_keeping(alloc, here, attempt, contents)
+}
+
+/// The attempt ends, with a content for each result.
+fn end(
+    alloc: Global,
+    here: &mut WorkerContext,
+    contents: &mut Seq<SharedContent>,
+) -> Result<(), AllocError>
+    ensures { (run : Execution) → here.old.worker.run ≡ Some run → OnOk result (here.new ≡ ends here.old run contents.old) }
+{
+    set_ended(alloc, here, contents)?;
     leave_if_free(alloc, here)?;
     give_slot_back(alloc, here)
 }
 
 /// The attempt stops there.
-fn stop(alloc: Global, here: &mut WorkerContext, stop: &Stopped) -> Result<(), AllocError>
-    ensures { OnOk result (here.new ≡ stops here.old stop.now) }
+fn stop(alloc: Global, here: &mut WorkerContext, stop: &mut Stopped) -> Result<(), AllocError>
+    ensures { OnOk result (here.new ≡ stops here.old stop.old) }
 {
     if here.worker.run.is_none() {
         return Ok(());
@@ -174,13 +239,13 @@ fn add_outcomes(
 
 /// What was done on the attempt's job is committed. Its births, prints and end are logged; each birth enters the table, holds the ids in it, and
 /// is stored or asked for; then the attempt waits for what it needs, unless it is answered at once, or stores each content with which it ends,
-/// unless that is small.
+/// unless that is small. Contents that nobody else keeps are taken out of what was done.
 pub fn commit_step(
     alloc: Global,
     here: &mut WorkerContext,
-    outcomes: &Outcomes,
+    outcomes: &mut Outcomes,
 ) -> Result<(), AllocError>
-    ensures { OnOk result (here.new ≡ commit_step here.old outcomes.now) }
+    ensures { OnOk result (here.new ≡ commit_step here.old outcomes.old) }
 {
     let Some(run) = &here.worker.run else {
         return Ok(());
@@ -190,7 +255,7 @@ pub fn commit_step(
     add_outcomes(alloc, here, outcomes)?;
     log_outcomes(alloc, here, attempt, first, outcomes)?;
     bear_all(alloc, here, attempt, &outcomes.births)?;
-    stop(alloc, here, &outcomes.stop)
+    stop(alloc, here, &mut outcomes.stop)
 }
 
 /// The worker's attempt is given out as that job; nothing but its phase changes.

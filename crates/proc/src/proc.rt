@@ -36,7 +36,7 @@ pub trait Proc {
     fn claim(&mut self, job: u64);
 
     /// What was done on its attempt's job is committed.
-    fn commit(&mut self, alloc: Global, outcomes: &Outcomes) -> Result<(), AllocError>;
+    fn commit(&mut self, alloc: Global, outcomes: &mut Outcomes) -> Result<(), AllocError>;
 }
 
 impl Proc for WorkerContext {
@@ -75,8 +75,8 @@ impl Proc for WorkerContext {
         claim_step(self, job);
     }
 
-    fn commit(&mut self, alloc: Global, outcomes: &Outcomes) -> Result<(), AllocError>
-        ensures { OnOk result (self.new ≡ commit_step self.old outcomes.now) }
+    fn commit(&mut self, alloc: Global, outcomes: &mut Outcomes) -> Result<(), AllocError>
+        ensures { OnOk result (self.new ≡ commit_step self.old outcomes.old) }
     {
         commit_step(alloc, self, outcomes)
     }

@@ -53,9 +53,9 @@ fn step(
     alloc: Global,
     here: &mut WorkerContext,
     sent: &Seq<Envelope>,
-    act: &Act,
+    act: &mut Act,
 ) -> Result<(), AllocError>
-    ensures { OnOk result (here.new ≡ act_step sent.now act.now here.old) }
+    ensures { OnOk result (here.new ≡ act_step sent.now act.old here.old) }
 {
     match act {
         Act::Claim(job) => {
@@ -76,9 +76,9 @@ pub fn take_part(
     alloc: Global,
     here: &mut WorkerContext,
     sent: &Seq<Envelope>,
-    act: &Act,
+    act: &mut Act,
 ) -> Result<(), AllocError>
-    ensures { OnOk result (here.new ≡ release_step (act_step sent.now act.now here.old)) }
+    ensures { OnOk result (here.new ≡ release_step (act_step sent.now act.old here.old)) }
 {
     step(alloc, here, sent, act)?;
     release_all(alloc, here)

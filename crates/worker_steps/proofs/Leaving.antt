@@ -1,6 +1,6 @@
 -- How a stopped attempt is left.
 use Rattle.std.proofs.Common.{◌≡◌, Bool, true, false, Some, if◌then◌else◌, refl, sym, ap, ◌∙◌}
-use Rattle.protocol_data.specs.of_event_log.Entries.{Attempt, main_attempt}
+use Rattle.protocol_data.specs.of_event_log.Entries.{main_attempt}
 use Rattle.protocol_data.specs.of_event_log.Words.{same_attempt}
 use Rattle.protocol.specs.Tables.{Execution, HasEnded, HasFaulted, Out, Phase, Ready, Waits, knows_dead, owner_of}
 use Rattle.protocol.specs.Steps.{WorkerContext, with_run}

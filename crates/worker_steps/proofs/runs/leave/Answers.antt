@@ -1,8 +1,8 @@
-use Rattle.std.proofs.Common.{◌≡◌, OnOk, Some, true, false, sym, ap, ◌∙◌, subst}
+use Rattle.std.proofs.Common.{◌≡◌, OnOk, true, false, sym, ap, ◌∙◌, subst}
 use Rattle.std.specs.Option.{option_map}
-use Rattle.protocol_data.specs.of_event_log.Entries.{Attempt, main_attempt}
+use Rattle.protocol_data.specs.of_event_log.Entries.{main_attempt}
 use Rattle.protocol_data.specs.of_event_log.Words.{same_attempt}
-use Rattle.protocol.specs.Tables.{Execution, knows_dead}
+use Rattle.protocol.specs.Tables.{knows_dead}
 use Rattle.protocol.specs.Runs.{is_heard}
 use Rattle.worker_steps.proofs.Leaving.{leaves_told, run_stays, same_some}
 use Rattle.worker_steps.proofs.runs.leave.Goals as goal

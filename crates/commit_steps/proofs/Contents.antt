@@ -1,6 +1,7 @@
 -- Contents that are kept one by one.
-use Rattle.std.proofs.Common.{◌≡◌, ℕ, zero, suc, ◌+◌, ◌<◌, Bool, true, if◌then◌else◌, List, [], ◌∷◌, ◌++◌, length, drop, slice_index_or, refl, sym, ap, ◌∙◌, arith}
-use Rattle.meaning.specs.Values.{Id, Outcome}
+use Rattle.std.proofs.Common.{◌≡◌, ℕ, ℤ, zero, suc, ◌+◌, ◌<◌, Bool, true, if◌then◌else◌, List, [], ◌∷◌, ◌++◌, length, drop, slice_index_or, Some, refl, sym, ap, subst, ◌∙◌, arith}
+use Rattle.std.specs.Prelude.{slice_get}
+use Rattle.meaning.specs.Values.{Id, Int, Outcome, Trap, Trapped, Val}
 use Rattle.meaning.specs.Runs.{next_id, past}
 use Rattle.values.specs.Cells.{is_small}
 use Rattle.protocol.specs.Stores.{with_ended, with_primary}
@@ -8,6 +9,9 @@ use Rattle.protocol.specs.Steps.{WorkerContext, store_here, with_store, with_wor
 use Rattle.protocol.specs.Holders.{holds_ids, passes_on}
 use Rattle.commit_steps.specs.Plain.{ArePlain, IsPlain}
 use Rattle.protocol.specs.Commits.{keeps_content, keeps_contents}
+
+some_is : (x y : Outcome) → Some x ≡ Some y → x ≡ y
+some_is x y e = cc
 
 id_at : (o : ℕ) (s t : ℕ) → s ≡ t → ◌≡◌ {A = Id} (record { owner = o; serial = s }) (record { owner = o; serial = t })
 id_at o s t e = cc
@@ -42,3 +46,16 @@ one_plain h o number c p =
 pub plain_kept : (h : WorkerContext) (o : Id) (number : ℕ) (cs : List Outcome) → ArePlain cs → keeps_contents h o number cs ≡ h
 plain_kept h o number [] p = refl
 plain_kept h o number (c ∷ cs) p = ap (λ g. keeps_contents g (next_id o) number cs) (one_plain h o number c p.0) ∙ plain_kept h (next_id o) number cs p.1
+
+pub trap_is_plain : (t : Trap) → IsPlain (Trapped t)
+unfolding is_small
+trap_is_plain t = record { small = refl; none = refl }
+
+pub number_is_plain : (n : ℤ) → IsPlain (Val (Int n))
+unfolding is_small
+number_is_plain n = record { small = refl; none = refl }
+
+pub one_is_all : (cs : List Outcome) (c : Outcome) → length cs ≡ 1 → slice_get cs 0 ≡ Some c → IsPlain c → ArePlain cs
+one_is_all [] c l e p = absurd (omega (arith, l))
+one_is_all (x ∷ []) c l e p = (subst IsPlain (some_is c x (sym e)) p, tt)
+one_is_all (x ∷ y ∷ zs) c l e p = absurd (omega (arith, l))

@@ -1,10 +1,11 @@
 // A commit: what a job came to.
 
-ghost use Rattle.std.specs.Prelude.{◌≡◌, ◌+◌, ◌++◌, IfOk, IsTrue, OnOk, Some, None};
+ghost use Rattle.std.specs.Prelude.{◌≡◌, ◌+◌, ◌++◌, IfOk, OnOk, Some, None, true};
 ghost use Rattle.protocol.specs.Steps.{with_phase, with_run};
 ghost use Rattle.protocol.specs.Tables.{HasEnded, Out};
 ghost use Rattle.protocol.specs.Commits.{asks_where, claim_step, commit_step, ends, keeps_content, keeps_contents, needs, rests_if_waiting, stops, with_outcomes};
 ghost use Rattle.protocol_data.specs.declared.tables.Execution.{Execution};
+ghost use Rattle.values.specs.Values.{content_of};
 ghost use Rattle.commit_steps.specs.Plain.{ArePlain, IsPlain};
 
 use crate::births::{bear_all, next_id};
@@ -98,25 +99,27 @@ fn keep_contents(
 }
 
 /// Whether the content goes into no store, and has no ids in it.
-fn is_plain(content: &SharedContent) -> bool
-    ensures { IsTrue result → IsPlain content.now }
+#[tactic(auto, using(crate::proofs::Contents::trap_is_plain, crate::proofs::Contents::number_is_plain))]
+fn is_plain(content: &Content) -> bool
+    ensures { result ≡ true → IsPlain (content_of content.now) }
 {
-    match &*content.inner {
+    match content {
         Content::Trap(_) => true,
-        Content::Value(value) => matches!(value, RunValue::Int(_)),
+        Content::Value(RunValue::Int(_)) => true,
+        Content::Value(_) => false,
     }
 }
 
-/// Whether each of these is so.
+/// Whether there is one content, and that is so.
+#[tactic(auto, using(crate::proofs::Contents::one_is_all))]
 fn are_plain(contents: &[SharedContent]) -> bool
-    ensures { IsTrue result → ArePlain contents.now }
+    ensures { result ≡ true → ArePlain contents.now }
 {
-    for content in contents {
-        if !is_plain(content) {
-            return false;
-        }
+    if contents.len() != 1 {
+        return false;
     }
-    true
+    let content = &contents[0];
+    is_plain(&content.inner)
 }
 
 /// The attempt ends with plain contents, of which nothing is kept but by the attempt: it takes the list as it is.

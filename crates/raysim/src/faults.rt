@@ -12,7 +12,7 @@ use raysim_commands::{
     Cluster, CommandRefusal, EndKind, FaultChoice, FaultKind, Tracked, TriedFaults, faults,
     first_of, list_file,
 };
-use raysim_files::{Noted, try_output, write_whole};
+use raysim_files::{WithError, try_output, write_whole};
 use raysim_options::FaultsOptions;
 use refusal_reasons::ListKind;
 use std::alloc::{AllocError, Global};
@@ -148,7 +148,7 @@ fn try_faults<R: Files + Print + Eprint + AllocGlobal + Clock>(
     let Some(texts) = read_texts(rt, options, cluster) else {
         return ExitCode::FAILURE;
     };
-    let mut output = Noted::new(io::writer(rt));
+    let mut output = WithError::new(io::writer(rt));
     let done = faults(
         rt.alloc(),
         &mut Tracked::reader(texts.script.as_slice()),

@@ -5,7 +5,7 @@ use crate::kept::{events_text, lines_text, plan_text};
 use crate::told::Stop;
 use event_reading::{read_event_file, read_lines, read_plan_file};
 use raysim_commands::{CommandRefusal, Tracked, check, read_at_most, read_script};
-use raysim_files::Noted;
+use raysim_files::WithError;
 use refusal_reasons::ListKind;
 use std::alloc::AllocError;
 use std::fs;
@@ -20,7 +20,7 @@ pub fn read_script_file<'a, R: Files + AllocGlobal>(
     path: &'a str,
 ) -> Result<Vec<u8>, Stop<'a>> {
     let mut file = match fs::open(rt, path) {
-        Ok(file) => Noted::new(file),
+        Ok(file) => WithError::new(file),
         Err(error) => return Err(Stop::reading(path, error)),
     };
     match read_script(rt.alloc(), &mut Tracked::reader(&mut file)) {
@@ -115,9 +115,9 @@ fn open<'a, R: Files + AllocGlobal>(
     rt: &R,
     script: &[u8],
     path: &'a str,
-) -> Result<Noted<R::File>, Stop<'a>> {
+) -> Result<WithError<R::File>, Stop<'a>> {
     match fs::open(rt, path) {
-        Ok(file) => Ok(Noted::new(file)),
+        Ok(file) => Ok(WithError::new(file)),
         Err(error) => Err(behind(rt, script, Stop::reading(path, error))),
     }
 }

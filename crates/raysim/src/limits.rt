@@ -3,7 +3,7 @@
 use crate::reasons::{Course, Known};
 use crate::told::{Printed, stopped};
 use raysim_commands::{CommandRefusal, Form, SoFar, Tracked, put_all, run_so_far, sim_so_far};
-use raysim_files::Noted;
+use raysim_files::WithError;
 use std::io;
 
 /// The limits that a run may meet, where it isn't known which one it met.
@@ -107,7 +107,7 @@ fn print_found<R: Print>(rt: &R, found: Result<SoFar, CommandRefusal>) -> Printe
             };
         }
     };
-    let mut output = Noted::new(io::writer(rt));
+    let mut output = WithError::new(io::writer(rt));
     let done = match put_all(&mut Tracked::writer(&mut output), so_far.text.as_bytes()) {
         Ok(()) => Ok(so_far.status),
         Err(failure) => Err(CommandRefusal::Failed(failure)),

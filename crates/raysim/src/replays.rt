@@ -9,7 +9,7 @@ use crate::told::{Printed, Stop, tell, tell_beside};
 use crate::traps::with_trap_of_replay;
 use crate::views::{View, Views, memory_of, write_done};
 use raysim_commands::{Cluster, CommandRefusal, Form, RunMemory, Tracked, migrate, sim, state};
-use raysim_files::Noted;
+use raysim_files::WithError;
 use refusal_reasons::ListKind;
 use std::io;
 use std::process::ExitCode;
@@ -151,7 +151,7 @@ fn print_replay<R: Print + AllocGlobal>(
     form: &Form,
     views: &Views<'_>,
 ) -> Printed {
-    let mut output = Noted::new(io::writer(rt));
+    let mut output = WithError::new(io::writer(rt));
     let done = sim(
         rt.alloc(),
         &mut Tracked::reader(texts.script.as_slice()),
@@ -167,7 +167,7 @@ fn print_replay<R: Print + AllocGlobal>(
 
 /// Replays, and prints the events in format 2.
 fn print_migrated<R: Print + AllocGlobal>(rt: &R, cluster: Cluster, texts: &Texts) -> Printed {
-    let mut output = Noted::new(io::writer(rt));
+    let mut output = WithError::new(io::writer(rt));
     let done = migrate(
         rt.alloc(),
         &mut Tracked::reader(texts.script.as_slice()),
@@ -186,7 +186,7 @@ fn print_state<R: Print + AllocGlobal>(
     texts: &Texts,
     at: usize,
 ) -> Printed {
-    let mut output = Noted::new(io::writer(rt));
+    let mut output = WithError::new(io::writer(rt));
     let done = state(
         rt.alloc(),
         &mut Tracked::reader(texts.script.as_slice()),

@@ -12,7 +12,7 @@ use raysim_commands::{
     Cluster, CommandRefusal, Engine, Form, RunMemory, Tracked, Unwatched, Watcher, check, export,
     run, serial,
 };
-use raysim_files::Noted;
+use raysim_files::WithError;
 use raysim_options::ScriptOptions;
 use std::io;
 use std::process::ExitCode;
@@ -103,7 +103,7 @@ fn print_done<R: Print + Eprint + AllocGlobal + Clock>(
     text: &[u8],
     views: &Views<'_>,
 ) -> Printed {
-    let mut output = Noted::new(io::writer(rt));
+    let mut output = WithError::new(io::writer(rt));
     let mut reader = Tracked::reader(text);
     let mut writer = Tracked::writer(&mut output);
     let done = match command {

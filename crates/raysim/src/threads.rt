@@ -11,7 +11,7 @@ use crate::replays::{Replayed, Texts, are_written};
 use crate::told::{Printed, Stop, stopped, tell, tell_beside};
 use crate::views::{Views, in_memory, write_done};
 use raysim_commands::{Cluster, CommandRefusal, Form, Tracked, put_all, run_threaded};
-use raysim_files::Noted;
+use raysim_files::WithError;
 use raysim_options::RunOptions;
 use refusal_reasons::ListKind;
 use std::io;
@@ -156,7 +156,7 @@ fn run_in_memory<'a, R: Eprint + AllocGlobal + Threads + Wait + Clock + Sync>(
 
 /// Prints the report; the status is that of the run where all of it is out.
 fn print_report<R: Print>(rt: &R, report: &[u8], status: u8) -> Printed {
-    let mut output = Noted::new(io::writer(rt));
+    let mut output = WithError::new(io::writer(rt));
     let done = match put_all(&mut Tracked::writer(&mut output), report) {
         Ok(()) => Ok(status),
         Err(failure) => Err(CommandRefusal::Failed(failure)),

@@ -4,7 +4,7 @@ use crate::told::Printed;
 use raysim_commands::{
     Cluster, CommandRefusal, Form, Tracked, TrapAsked, put_all, run_trap, sim_trap, trap_asked,
 };
-use raysim_files::Noted;
+use raysim_files::WithError;
 use std::io;
 
 /// The status of a run in which main ended with a trap.
@@ -68,7 +68,7 @@ fn print_below<R: Print>(
             };
         }
     };
-    let mut output = Noted::new(io::writer(rt));
+    let mut output = WithError::new(io::writer(rt));
     let done = match put_all(&mut Tracked::writer(&mut output), text.as_bytes()) {
         Ok(()) => printed.done,
         Err(failure) => Err(CommandRefusal::Failed(failure)),

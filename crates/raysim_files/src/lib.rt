@@ -2,11 +2,11 @@
 #![tactic(auto)]
 
 mod clash;
-mod noted;
 mod place;
 mod whole;
+mod with_error;
 
 pub use clash::{Clash, first_clash};
-pub use noted::Noted;
 pub use place::{FilePlace, place_of};
 pub use whole::{try_output, write_whole};
+pub use with_error::WithError;

@@ -5,15 +5,15 @@ use std::io::{Read, Write};
 
 /// A reader or a writer, with the error of its last call that failed.
 #[derive(Drop)]
-pub struct Noted<T> {
+pub struct WithError<T> {
     inner: T,
     error: Option<io::Error>,
 }
 
-impl<T> Noted<T> {
+impl<T> WithError<T> {
     /// The reader or writer, none of whose calls has failed yet.
-    pub fn new(inner: T) -> Noted<T> {
-        Noted { inner, error: None }
+    pub fn new(inner: T) -> WithError<T> {
+        WithError { inner, error: None }
     }
 
     /// The error of its last call that failed, if one did.
@@ -22,7 +22,7 @@ impl<T> Noted<T> {
     }
 }
 
-impl<R: Read> Read for Noted<R> {
+impl<R: Read> Read for WithError<R> {
     ghost remaining = { λ s. R.remaining s.inner };
 
     fn read(&mut self, buf: &mut [u8]) -> io::Result<usize> {
@@ -34,7 +34,7 @@ impl<R: Read> Read for Noted<R> {
     }
 }
 
-impl<W: Write> Write for Noted<W> {
+impl<W: Write> Write for WithError<W> {
     ghost contents = { λ s. W.contents s.inner };
 
     fn write(&mut self, buf: &[u8]) -> io::Result<usize> {

@@ -1,14 +1,14 @@
 // What is counted of a function.
 
-ghost use Rattle.std.specs.Prelude.{◌≡◌, ◌&&◌, List, option_copied};
+ghost use Rattle.std.specs.Prelude.{◌≡◌, ◌&&◌, ◌-◌, ◌==◌, List, option_copied};
 ghost use Rattle.std.specs.Option.{option_map};
 ghost use Rattle.task_spec.specs.Births.{birth_of};
 ghost use Rattle.event_log.specs.Entries.{Entry as Logged};
-ghost use Rattle.event_log.specs.Words.{births};
+ghost use Rattle.event_log.specs.Words.{attempt as attempt_of, births};
 ghost use Rattle.report_text.specs.of_report_lines.Attempts.{AreStatesOf};
 ghost use Rattle.log_words.specs.Index.{IsIndexOf};
 ghost use Rattle.summary_text.specs.Columns.{begins, begins_after, born_in, column_count, ends, faults, is_born_of, is_counted};
-ghost use Rattle.summary_text.specs.Columns.{is_behind, is_further, is_made_by, is_of, is_result_of, source_of, resolves, was_accepted};
+ghost use Rattle.summary_text.specs.Columns.{is_behind, is_further, is_made_by, is_of, is_result_of, source_of, resolves, same_truth, was_accepted};
 
 use ids::{AttemptId, ObjectId};
 use log_entries::Entry;
@@ -87,18 +87,38 @@ fn was_accepted(states: &AttemptStates, attempt: AttemptId) -> bool
     states.name(attempt) == "accepted"
 }
 
+/// Whether both are true, or neither.
+fn is_as(one: bool, other: bool) -> bool
+    ensures { result ≡ same_truth one other }
+{
+    one == other
+}
+
+fn is_first(attempt: AttemptId) -> bool
+    ensures { result ≡ (attempt.number == 0) }
+{
+    attempt.number == 0
+}
+
+/// The attempt before that one, where it isn't the first.
+fn before(attempt: AttemptId) -> AttemptId
+    ensures { result ≡ attempt_of attempt.object (attempt.number - 1) }
+{
+    AttemptId {
+        object: attempt.object,
+        number: attempt.number.saturating_sub(1),
+    }
+}
+
 /// Whether the attempt comes behind another of its task that was accepted, or wasn't.
 fn is_behind(states: &AttemptStates, attempt: AttemptId, accepted: bool) -> bool
     ensures { (log : List Logged) → AreStatesOf states.now log → result ≡ is_behind log attempt accepted }
 {
-    if attempt.number == 0 {
+    if is_first(attempt) {
         return false;
     }
-    let before = AttemptId {
-        object: attempt.object,
-        number: attempt.number - 1,
-    };
-    was_accepted(states, before) == accepted
+    let earlier = before(attempt);
+    is_as(was_accepted(states, earlier), accepted)
 }
 
 fn is_born(entry: &Entry, function: &str) -> bool

@@ -1,5 +1,5 @@
 -- Between which places flags are up, as one is added.
-use Rattle.std.proofs.Common.{◌≡◌, ℕ, zero, suc, ◌<◌, ◌≤◌, Bool, true, false, List, [], ◌∷◌, ◌++◌, Some, refl, ap, arith, length}
+use Rattle.std.proofs.Common.{◌≡◌, ℕ, zero, suc, ◌<◌, ◌≤◌, Bool, true, false, List, [], ◌∷◌, ◌++◌, Some, refl, ap, arith, length, ◌∙◌, sym}
 use Rattle.std.specs.Prelude.{slice_get, slice_set}
 use Rattle.flags.specs.Blocks.{AreWithin}
 
@@ -31,3 +31,9 @@ one_longer (f ∷ fs) = omega (arith, one_longer fs)
 pub set_added : (fs : List Bool) → slice_set (fs ++ false ∷ []) (length fs) true ≡ fs ++ true ∷ []
 set_added [] = refl
 set_added (f ∷ fs) = ap (λ gs. f ∷ gs) (set_added fs)
+
+-- what stands there already is written there for nothing
+pub set_as_is : (fs : List Bool) (i : ℕ) (b c : Bool) → slice_get fs i ≡ Some b → b ≡ c → fs ≡ slice_set fs i c
+set_as_is [] i b c e s = refl
+set_as_is (f ∷ fs) zero b c e s = ap (λ g. g ∷ fs) (sym (some_is f b e) ∙ s)
+set_as_is (f ∷ fs) (suc i) b c e s = ap (λ gs. f ∷ gs) (set_as_is fs i b c e s)

@@ -124,6 +124,14 @@ impl Blocks {
         take_last(&mut self.flags);
     }
 
+    /// Whether the flag at the place is up.
+    pub fn is_up(&self, place: usize) -> bool
+        requires { place < length self.now }
+        ensures { slice_get self.now place ≡ Some result }
+    {
+        *self.flags.get(place)
+    }
+
     /// Raises or lowers the flag at the place. A block stays marked as its flag is lowered: see `sum_up`.
     pub fn set(&mut self, place: usize, is_up: bool)
         requires { place < length self.old }

@@ -75,10 +75,14 @@ impl Flags {
     }
 
     /// Raises or lowers the flag at the place. A block stays marked as its flag is lowered: see `sum_up`.
+    #[tactic(auto, using(crate::proofs::Windows::set_as_is))]
     pub fn set(&mut self, place: usize, is_up: bool)
         requires { place < length self.old }
         ensures { self.new ≡ slice_set self.old place is_up }
     {
+        if self.blocks.is_up(place) == is_up {
+            return;
+        }
         let behind = self.blocks.len().min(place + 1);
         self.blocks.set(place, is_up);
         if is_up {

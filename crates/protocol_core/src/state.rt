@@ -63,19 +63,6 @@ fn cut(log: &mut Seq<Entry>, count: usize)
     log.items.truncate(count);
 }
 
-/// Adds the entry at the end. Where there is room it is written there at once, with no call to which it would be handed.
-#[inline(always)]
-fn add_own(log: &mut Seq<Entry>, own: Entry) -> Result<(), AllocError>
-    ensures ok { OnOk result (log.new ≡ log.old ++ own ∷ []) }
-    ensures err { OnErr result (log.new ≡ log.old) }
-{
-    if log.items.len() < log.items.capacity() {
-        log.items.push_reserved(own);
-        return Ok(());
-    }
-    log.push(own)
-}
-
 /// Adds an entry, and moves more of them behind it. On an error the log is as it was.
 #[tactic(auto, using(crate::proofs::Adding::added, crate::proofs::Adding::cut_back))]
 fn add_both(log: &mut Seq<Entry>, own: Entry, more: &mut Seq<Entry>) -> Result<(), AllocError>
@@ -83,7 +70,7 @@ fn add_both(log: &mut Seq<Entry>, own: Entry, more: &mut Seq<Entry>) -> Result<(
     ensures err { OnErr result (log.new ≡ log.old) }
 {
     let count = log.len();
-    add_own(log, own)?;
+    log.push(own)?;
     if let Err(error) = log.append(more) {
         cut(log, count);
         return Err(error);

@@ -1,7 +1,6 @@
 // The report's section of attempts: of each its worker, and whether it was accepted, ended, faulted or open.
 
 ghost use Rattle.std.specs.Prelude.{◌≡◌, ◌++◌, ◌||◌, List, [], OnOk, IfOk, string_bytes};
-ghost use Rattle.std.specs.List.{flat_map};
 ghost use Rattle.ids.specs.Attempts.{Attempt};
 ghost use Rattle.event_log.specs.Entries as logged;
 ghost use Rattle.event_log.specs.Words.{accepted_in, ended_in, faulted_in};
@@ -112,15 +111,4 @@ pub fn write_attempt(
         return Ok(());
     }
     write_line(text, *attempt, *worker, states.name(*attempt))
-}
-
-/// Writes a line for each attempt but main's, in the order of their beginnings.
-pub fn write_attempts(alloc: Global, text: &mut String, log: &[Entry]) -> Result<(), AllocError>
-    ensures { OnOk result (string_bytes text.new ≡ string_bytes text.old ++ flat_map (attempt_in log.now) log.now) }
-{
-    let states = AttemptStates::of(alloc, log)?;
-    for entry in log {
-        write_attempt(text, &states, entry)?;
-    }
-    Ok(())
 }

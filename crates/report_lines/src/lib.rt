@@ -12,12 +12,10 @@ mod outcomes;
 mod prints;
 mod refusals;
 
-pub use attempts::{AttemptStates, write_attempts};
+pub use attempts::AttemptStates;
 pub use faults::kind_name;
 pub use log_entries;
 pub use main_end::{status_of, write_main};
 pub use noted::{Noted, write_prints_and_note};
-pub use objects::{write_releases, write_resolves};
 pub use outcomes::write_outcomes;
-pub use prints::write_prints;
 pub use refusals::{last_event, write_refusals};

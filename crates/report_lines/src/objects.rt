@@ -1,7 +1,6 @@
 // The report's sections of objects: those with a fault, and those released.
 
 ghost use Rattle.std.specs.Prelude.{◌≡◌, ◌++◌, OnOk, string_bytes};
-ghost use Rattle.std.specs.List.{flat_map};
 ghost use Rattle.report_lines.specs.Objects.{resolve_in, release_in};
 
 use crate::faults::write_fault;
@@ -20,16 +19,6 @@ pub fn write_resolve(text: &mut String, entry: &Entry) -> Result<(), AllocError>
     text.push_str("\n")
 }
 
-/// Writes a line for each resolve of the log.
-pub fn write_resolves(text: &mut String, log: &[Entry]) -> Result<(), AllocError>
-    ensures { OnOk result (string_bytes text.new ≡ string_bytes text.old ++ flat_map resolve_in log.now) }
-{
-    for entry in log {
-        write_resolve(text, entry)?;
-    }
-    Ok(())
-}
-
 /// Writes `released o1.2` where the entry is a release.
 pub fn write_release(text: &mut String, entry: &Entry) -> Result<(), AllocError>
     ensures { OnOk result (string_bytes text.new ≡ string_bytes text.old ++ release_in entry.now) }
@@ -39,14 +28,4 @@ pub fn write_release(text: &mut String, entry: &Entry) -> Result<(), AllocError>
     };
     let (owner, serial) = (object.owner.0, object.serial);
     writeln!(text, "released o{owner}.{serial}")
-}
-
-/// Writes a line for each release of the log.
-pub fn write_releases(text: &mut String, log: &[Entry]) -> Result<(), AllocError>
-    ensures { OnOk result (string_bytes text.new ≡ string_bytes text.old ++ flat_map release_in log.now) }
-{
-    for entry in log {
-        write_release(text, entry)?;
-    }
-    Ok(())
 }

@@ -1,7 +1,6 @@
 // The report's first section: a line for each print of main.
 
 ghost use Rattle.std.specs.Prelude.{◌≡◌, ◌++◌, OnOk, string_bytes};
-ghost use Rattle.std.specs.List.{flat_map};
 ghost use Rattle.report_lines.specs.Main.{print_in};
 
 use log_entries::Entry;
@@ -18,14 +17,4 @@ pub fn write_print(text: &mut String, entry: &Entry) -> Result<(), AllocError>
     text.push_str("print ")?;
     write_value(text, &value.inner)?;
     text.push_str("\n")
-}
-
-/// Writes a line for each print of the log.
-pub fn write_prints(text: &mut String, log: &[Entry]) -> Result<(), AllocError>
-    ensures { OnOk result (string_bytes text.new ≡ string_bytes text.old ++ flat_map print_in log.now) }
-{
-    for entry in log {
-        write_print(text, entry)?;
-    }
-    Ok(())
 }

@@ -73,7 +73,23 @@ impl<T> Seq<T> {
 
 impl<T: Drop> Seq<T> {
     /// Adds an item at the end. On an error the list is as it was, and the item is gone.
+    ///
+    /// Where there is room the item is written there at once, with no call to which it would be handed.
+    #[inline(always)]
     pub fn push(&mut self, item: T) -> Result<(), AllocError>
+        ensures ok { OnOk result (self.new ≡ self.old ++ item ∷ []) }
+        ensures err { OnErr result (self.new ≡ self.old) }
+    {
+        if self.items.len() < self.items.capacity() {
+            self.items.push_reserved(item);
+            return Ok(());
+        }
+        self.push_grown(item)
+    }
+
+    /// Adds an item at the end of a list that has no room for it.
+    #[inline(never)]
+    fn push_grown(&mut self, item: T) -> Result<(), AllocError>
         ensures ok { OnOk result (self.new ≡ self.old ++ item ∷ []) }
         ensures err { OnErr result (self.new ≡ self.old) }
     {

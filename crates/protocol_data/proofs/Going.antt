@@ -1,43 +1,10 @@
--- Flags of workers, which go with the workers.
-use Rattle.std.proofs.Common.{◌≡◌, ℕ, zero, suc, ◌<◌, ◌≤◌, Bool, true, false, List, [], ◌∷◌, length, map, Option, Some, None, refl, sym, ap, ◌∙◌, arith}
+-- Marks of workers, which go with the workers.
+use Rattle.std.proofs.Common.{◌≡◌, ℕ, zero, suc, ◌+◌, ◌<◌, ◌≤◌, ◌⊎◌, inl, inr, Bool, true, false, List, [], ◌∷◌, ◌++◌, length, Option, Some, None, refl, sym, ap, ◌∙◌, arith}
 use Rattle.std.specs.Prelude.{slice_get, slice_set}
 use Rattle.flags.specs.Blocks.{AreDown}
+use Rattle.sequence.proofs.Places.{slice_get-append, slice_get-last, slice_get-push_cases, slice_get-set_cases, slice_get-set_other}
 use Rattle.protocol_data.specs.declared.tables.Worker.{Worker}
-
-some_is : {X : Type 0} (x y : X) → Some x ≡ Some y → x ≡ y
-some_is x y e = cc
-
-pub get_map : {X Y : Type 0} (f : X → Y) (xs : List X) (i : ℕ) (x : X) → slice_get xs i ≡ Some x → slice_get (map f xs) i ≡ Some (f x)
-get_map f [] i x e = absurd cc
-get_map f (y ∷ ys) zero x e = ap (λ z. Some (f z)) (some_is y x e)
-get_map f (y ∷ ys) (suc i) x e = get_map f ys i x e
-
-pub map_set : {X Y : Type 0} (f : X → Y) (xs : List X) (i : ℕ) (x : X) → slice_set (map f xs) i (f x) ≡ map f (slice_set xs i x)
-map_set f [] i x = refl
-map_set f (y ∷ ys) zero x = refl
-map_set f (y ∷ ys) (suc i) x = ap (λ zs. f y ∷ zs) (map_set f ys i x)
-
-pub map_length : {X Y : Type 0} (f : X → Y) (xs : List X) → length (map f xs) ≡ length xs
-map_length f [] = refl
-map_length f (x ∷ xs) = ap suc (map_length f xs)
-
--- flags that go with workers go with them where one is exchanged
-pub flags_set : (f : Worker → Bool) (fs : List Bool) (xs : List Worker) (i : ℕ) (x : Worker) (b : Bool) → fs ≡ map f xs → b ≡ f x
-    → slice_set fs i b ≡ map f (slice_set xs i x)
-flags_set f fs xs i x b e g = ap (λ gs. slice_set gs i b) e ∙ ap (λ c. slice_set (map f xs) i c) g ∙ map_set f xs i x
-
-pub flags_length : (f : Worker → Bool) (fs : List Bool) (xs : List Worker) → fs ≡ map f xs → length fs ≡ length xs
-flags_length f fs xs e = ap length e ∙ map_length f xs
-
--- no flag is up: none of the workers is so
-pub none_so : (f : Worker → Bool) (fs : List Bool) (xs : List Worker) (from to : ℕ) → fs ≡ map f xs → AreDown fs from to
-    → (i : ℕ) (x : Worker) → from ≤ i → i < to → slice_get xs i ≡ Some x → f x ≡ false
-none_so f fs xs from to e down i x a b g = down i (f x) a b (ap (λ gs. slice_get gs i) e ∙ get_map f xs i x g)
-
--- the flag is up: the worker is so
-pub that_is_so : (f : Worker → Bool) (fs : List Bool) (xs : List Worker) (i : ℕ) (x : Worker) → fs ≡ map f xs → slice_get fs i ≡ Some true
-    → slice_get xs i ≡ Some x → f x ≡ true
-that_is_so f fs xs i x e u g = some_is (f x) true (sym (get_map f xs i x g) ∙ ap (λ gs. slice_get gs i) (sym e) ∙ u)
+use Rattle.protocol_data.specs.Going.{AreMarked}
 
 -- what stands there is within
 pub there_within : (xs : List Worker) (i : ℕ) (x : Worker) → slice_get xs i ≡ Some x → i < length xs
@@ -45,17 +12,108 @@ there_within [] i x e = absurd cc
 there_within (y ∷ ys) zero x e = omega arith
 there_within (y ∷ ys) (suc i) x e = omega (arith, there_within ys i x e)
 
+set_length : {X : Type 0} (xs : List X) (i : ℕ) (x : X) → length (slice_set xs i x) ≡ length xs
+set_length [] i x = refl
+set_length (y ∷ ys) zero x = refl
+set_length (y ∷ ys) (suc i) x = ap suc (set_length ys i x)
+
+push_length : {X Y : Type 0} (xs : List X) (ys : List Y) (x : X) (y : Y) → length xs ≡ length ys → length (xs ++ x ∷ []) ≡ length (ys ++ y ∷ [])
+push_length [] [] x y e = refl
+push_length [] (z ∷ zs) x y e = absurd (omega (arith, e))
+push_length (z ∷ zs) [] x y e = absurd (omega (arith, e))
+push_length (z ∷ zs) (w ∷ ws) x y e = ap suc (push_length zs ws x y (omega (arith, e)))
+
+is_no : (b : Bool) → (b ≡ true → ⊥) → b ≡ false
+is_no true n = absurd (n refl)
+is_no false n = refl
+
+-- a worker comes to a place that is marked where the worker is so
+pub marked_there : (f : Worker → Bool) (fs gs : List Bool) (xs : List Worker) (i : ℕ) (x : Worker) (b : Bool) → AreMarked f fs xs → b ≡ f x
+    → (b ≡ true → slice_get gs i ≡ Some true) → ((j : ℕ) → slice_get fs j ≡ Some true → slice_get gs j ≡ Some true) → length gs ≡ length fs
+    → AreMarked f gs (slice_set xs i x)
+marked_there f fs gs xs i x b w e there kept l = record { marked = marked; len = l ∙ w.len ∙ sym (set_length xs i x) }
+  where
+    marked : (j : ℕ) (y : Worker) → slice_get (slice_set xs i x) j ≡ Some y → f y ≡ true → slice_get gs j ≡ Some true
+    marked j y g h = elim (slice_get-set_cases xs i j x y g) [
+      | inl k ↦ ap (λ n. slice_get gs n) k.0 ∙ there (e ∙ sym (ap f k.1) ∙ h)
+      | inr k ↦ kept j (w.marked j y k.1 h)
+    ]
+
+settled_at : (f : Worker → Bool) (fs : List Bool) (xs : List Worker) (i j : ℕ) (x y : Worker) → slice_get xs i ≡ Some x → slice_get xs j ≡ Some y → f y ≡ true
+    → slice_get fs j ≡ Some true → slice_get (slice_set fs i (f x)) j ≡ Some true
+settled_at f [] xs i j x y a b h m = absurd cc
+settled_at f (g ∷ fs) [] i j x y a b h m = absurd cc
+settled_at f (g ∷ fs) (z ∷ xs) zero zero x y a b h m = let same : x ≡ y = cc in ap Some (ap f same ∙ h)
+settled_at f (g ∷ fs) (z ∷ xs) zero (suc j) x y a b h m = m
+settled_at f (g ∷ fs) (z ∷ xs) (suc i) zero x y a b h m = m
+settled_at f (g ∷ fs) (z ∷ xs) (suc i) (suc j) x y a b h m = settled_at f fs xs i j x y a b h m
+
+-- a place has a mark exactly where its worker is so
+pub settled : (f : Worker → Bool) (fs : List Bool) (xs : List Worker) (i : ℕ) (x : Worker) (b : Bool) → AreMarked f fs xs → slice_get xs i ≡ Some x → b ≡ f x
+    → AreMarked f (slice_set fs i b) xs
+settled f fs xs i x b w at e = record { marked = marked; len = set_length fs i b ∙ w.len }
+  where
+    marked : (j : ℕ) (y : Worker) → slice_get xs j ≡ Some y → f y ≡ true → slice_get (slice_set fs i b) j ≡ Some true
+    marked j y g h = ap (λ c. slice_get (slice_set fs i c) j) e ∙ settled_at f fs xs i j x y at g h (w.marked j y g h)
+
+-- one more worker, with its mark
+pub marked_last : (f : Worker → Bool) (fs : List Bool) (xs : List Worker) (x : Worker) (b : Bool) → AreMarked f fs xs → b ≡ f x
+    → AreMarked f (fs ++ b ∷ []) (xs ++ x ∷ [])
+marked_last f fs xs x b w e = record { marked = marked; len = push_length fs xs b x w.len }
+  where
+    marked : (j : ℕ) (y : Worker) → slice_get (xs ++ x ∷ []) j ≡ Some y → f y ≡ true → slice_get (fs ++ b ∷ []) j ≡ Some true
+    marked j y g h = elim (slice_get-push_cases xs x j y g) [
+      | inl k ↦ slice_get-append fs (b ∷ []) j true (w.marked j y k h)
+      | inr k ↦ slice_get-last fs b j (k.0 ∙ sym w.len) ∙ ap Some (e ∙ sym (ap f k.1) ∙ h)
+    ]
+
 none_past : (xs : List Worker) (i : ℕ) → i < length xs → slice_get xs i ≡ None → ⊥
 none_past [] i h e = absurd (omega (arith, h))
 none_past (x ∷ xs) zero h e = absurd cc
 none_past (x ∷ xs) (suc i) h e = none_past xs i (omega (arith, h)) e
 
--- a flag is lowered as its worker dies
-pub flags_lowered : (f : Worker → Bool) → ((x : Worker) → f (record x { is_live = false }) ≡ false) → (fs : List Bool) (xs ys : List Worker) (i : ℕ)
-    → fs ≡ map f xs → i < length xs
-    → ((x : Worker) → slice_get xs i ≡ Some x → ys ≡ slice_set xs i (record x { is_live = false })) → slice_set fs i false ≡ map f ys
-flags_lowered f dead fs xs ys i e h g = by (slice_get xs i) refl
+-- a worker that dies loses its mark
+pub lowered : (f : Worker → Bool) → ((x : Worker) → f (record x { is_live = false }) ≡ false) → (fs : List Bool) (xs ys : List Worker) (i : ℕ)
+    → AreMarked f fs xs → i < length xs
+    → ((x : Worker) → slice_get xs i ≡ Some x → ys ≡ slice_set xs i (record x { is_live = false })) → AreMarked f (slice_set fs i false) ys
+lowered f dead fs xs ys i w h g = by (slice_get xs i) refl
   where
-    by : (o : Option Worker) → slice_get xs i ≡ o → slice_set fs i false ≡ map f ys
+    marked : (x : Worker) (j : ℕ) (y : Worker) → slice_get (slice_set xs i (record x { is_live = false })) j ≡ Some y → f y ≡ true
+        → slice_get (slice_set fs i false) j ≡ Some true
+    marked x j y k t = elim (slice_get-set_cases xs i j (record x { is_live = false }) y k) [
+      | inl e ↦ absurd (let z : true ≡ false = sym t ∙ ap f e.1 ∙ dead x in cc)
+      | inr e ↦ slice_get-set_other fs i j false e.0 ∙ w.marked j y e.1 t
+    ]
+
+    by : (o : Option Worker) → slice_get xs i ≡ o → AreMarked f (slice_set fs i false) ys
     by None k = absurd (none_past xs i h k)
-    by (Some x) k = flags_set f fs xs i (record x { is_live = false }) false e (sym (dead x)) ∙ ap (map f) (sym (g x k))
+    by (Some x) k = record {
+      marked = λ j y a t. marked x j y (ap (λ zs. slice_get zs j) (sym (g x k)) ∙ a) t;
+      len = set_length fs i false ∙ w.len ∙ sym (ap length (g x k) ∙ set_length xs i (record x { is_live = false }));
+    }
+
+-- where no mark is, no worker is so
+pub none_so : (f : Worker → Bool) (fs : List Bool) (xs : List Worker) (from to : ℕ) → AreMarked f fs xs → AreDown fs from to
+    → (i : ℕ) (x : Worker) → from ≤ i → i < to → slice_get xs i ≡ Some x → f x ≡ false
+none_so f fs xs from to w down i x a b g = is_no (f x) (λ t. let z : true ≡ false = down i true a b (w.marked i x g t) in cc)
+
+-- no worker before the place is so, nor the one there, and behind it is no mark up to the next
+pub none_further : (f : Worker → Bool) (fs : List Bool) (xs : List Worker) (from place next : ℕ) (y : Worker) → AreMarked f fs xs
+    → ((i : ℕ) (x : Worker) → from ≤ i → i < place → slice_get xs i ≡ Some x → f x ≡ false)
+    → slice_get xs place ≡ Some y → f y ≡ false → AreDown fs (place + 1) next
+    → (i : ℕ) (x : Worker) → from ≤ i → i < next → slice_get xs i ≡ Some x → f x ≡ false
+none_further f fs xs from place next y w before at isnt down i x a b g = elim (where_is i place) [
+  | inl k ↦ before i x a k g
+  | inr (inl k) ↦ (let same : x ≡ y = (let z : Some x ≡ Some y = sym g ∙ ap (λ n. slice_get xs n) k ∙ at in cc) in ap f same ∙ isnt)
+  | inr (inr k) ↦ none_so f fs xs (place + 1) next w down i x k b g
+]
+  where
+    where_is : (i place : ℕ) → (i < place) ⊎ ((i ≡ place) ⊎ (place + 1 ≤ i))
+    where_is zero zero = inr (inl refl)
+    where_is zero (suc p) = inl (omega arith)
+    where_is (suc i) zero = inr (inr (omega arith))
+    where_is (suc i) (suc p) = elim (where_is i p) [
+      | inl k ↦ inl (omega (arith, k))
+      | inr (inl k) ↦ inr (inl (ap suc k))
+      | inr (inr k) ↦ inr (inr (omega (arith, k)))
+    ]

@@ -1,5 +1,5 @@
 -- Which workers may have something to claim or to commit.
-use Rattle.std.specs.Prelude.{Bool, List, None, Option, Some, false, slice_get, true, ℕ, ◌&&◌, ◌<◌, ◌≡◌, ◌≤◌}
+use Rattle.std.specs.Prelude.{Bool, List, None, Option, Some, false, length, slice_get, true, ℕ, ◌&&◌, ◌<◌, ◌≡◌, ◌≤◌}
 use Rattle.protocol_data.specs.declared.tables.Execution.{Execution}
 use Rattle.protocol_data.specs.declared.tables.Phase.{Phase}
 use Rattle.protocol_data.specs.declared.tables.Phase.TheVariants.{HasEnded, HasFaulted, Out, Ready, Waits}
@@ -46,3 +46,8 @@ AreAtRest xs from to = (i : ℕ) (x : Worker) → from ≤ i → i < to → slic
 -- of no worker from the one place to before the other is the job out
 abbrev pub HaveNoneOut : List Worker → ℕ → ℕ → Type 0
 HaveNoneOut xs from to = (i : ℕ) (x : Worker) → from ≤ i → i < to → slice_get xs i ≡ Some x → may_commit x ≡ false
+
+-- each worker that is so has a mark, and so may others have
+pub record AreMarked (f : Worker → Bool) (marks : List Bool) (xs : List Worker) : Type 0 where
+  pub marked : (i : ℕ) (x : Worker) → slice_get xs i ≡ Some x → f x ≡ true → slice_get marks i ≡ Some true
+  pub len : length marks ≡ length xs

@@ -1,7 +1,7 @@
 // The workers of a run, with an index of those that may have something to claim or to commit.
 
-ghost use Rattle.std.specs.Prelude.{◌≡◌, ◌++◌, ◌∷◌, [], ◌<◌, ◌≤◌, OnErr, OnOk, Some, false, length, slice_get, slice_set, true};
-ghost use Rattle.protocol_data.specs.Going.{AreAtRest, HaveNoneOut, has_going, has_out, is_going, is_out, may_commit, may_go};
+ghost use Rattle.std.specs.Prelude.{ℕ, ◌≡◌, ◌++◌, ◌∷◌, [], ◌<◌, ◌≤◌, OnErr, OnOk, Some, false, length, slice_get, slice_set, true};
+ghost use Rattle.protocol_data.specs.Going.{AreAtRest, AreMarked, HaveNoneOut, has_going, has_out, is_going, is_out, may_commit, may_go};
 ghost use Rattle.protocol_data.specs.declared.tables.Worker.{Worker};
 
 use crate::tables::{Execution, Phase, Worker};
@@ -88,9 +88,65 @@ fn kill(rows: &mut Seq<Boxed<Worker>>, place: usize)
     worker.is_live = false;
 }
 
+/// Marks the place where the worker that comes to it is so.
+fn mark(marks: &mut Flags, place: usize, is_so: bool)
+    requires { place < length marks.old }
+    ensures marked { is_so ≡ true → slice_get marks.new place ≡ Some true }
+    ensures kept { (i : ℕ) → slice_get marks.old i ≡ Some true → slice_get marks.new i ≡ Some true }
+    ensures len { length marks.new ≡ length marks.old }
+{
+    if is_so {
+        marks.set(place, true);
+    }
+}
+
+/// The first place from that one on whose worker may have something to claim or to commit; or how many workers there are, or that place if it is more.
+/// The marks say which may: those of others are passed over.
+fn next_going(rows: &Seq<Boxed<Worker>>, marks: &Flags, from: usize) -> usize
+    requires { AreMarked may_go marks.now rows.now }
+    ensures on { from ≤ result }
+    ensures rest { AreAtRest rows.now from result }
+    ensures goes { (x : Worker) → slice_get rows.now result ≡ Some x → may_go x ≡ true }
+{
+    let mut place = marks.next(from);
+    for turn in from..rows.len() {
+        let _ = turn;
+        if place >= rows.len() {
+            return place;
+        }
+        if may_go(rows.get(place)) {
+            return place;
+        }
+        place = marks.next(place + 1);
+    }
+    place
+}
+
+/// The same of the workers whose job is out.
+fn next_out(rows: &Seq<Boxed<Worker>>, marks: &Flags, from: usize) -> usize
+    requires { AreMarked may_commit marks.now rows.now }
+    ensures on { from ≤ result }
+    ensures rest { HaveNoneOut rows.now from result }
+    ensures goes { (x : Worker) → slice_get rows.now result ≡ Some x → may_commit x ≡ true }
+{
+    let mut place = marks.next(from);
+    for turn in from..rows.len() {
+        let _ = turn;
+        if place >= rows.len() {
+            return place;
+        }
+        if may_commit(rows.get(place)) {
+            return place;
+        }
+        place = marks.next(place + 1);
+    }
+    place
+}
+
 /// Workers by number, from 1 on, dead ones too, which contracts see as the list of them.
 ///
-/// Beside them stands which of them may have something to claim or to commit, and whose job is out, so that the choice of the next event looks at no other.
+/// Beside them stand marks: whoever may have something to claim or to commit has one, and so has whose job is out, so that the choice of the next event
+/// looks at no other. A worker that isn't so any more keeps its mark until it is settled.
 #[derive(Drop)]
 pub struct Workers {
     rows: Seq<Boxed<Worker>>,
@@ -99,14 +155,14 @@ pub struct Workers {
 }
 
 impl Model for Workers {
-    ghost use Rattle.std.specs.Prelude.{◌≡◌, List, map};
+    ghost use Rattle.std.specs.Prelude.{List};
     ghost use Rattle.std.specs.Coded.{codes};
     ghost use Rattle.ids.specs.Codes.{id_code};
     ghost use Rattle.log_entries.specs.of_held.Codes.{value_code, outcome_code, birth_code};
     ghost use Rattle.ids.specs.Codes.{attempt_code};
     ghost use Rattle.log_entries.specs.of_values.FaultCodes.{fault_code};
     ghost use Rattle.protocol_data.specs.declared.tables.Worker.{Worker};
-    ghost use Rattle.protocol_data.specs.Going.{may_commit, may_go};
+    ghost use Rattle.protocol_data.specs.Going.{AreMarked, may_commit, may_go};
 
     ghost Value = { List Worker };
 
@@ -114,7 +170,7 @@ impl Model for Workers {
 
     ghost view = { λ w. w.rows };
 
-    ghost invariant = { λ w. (w.going ≡ map may_go w.rows) × (w.out ≡ map may_commit w.rows) };
+    ghost invariant = { λ w. AreMarked may_go w.going w.rows × AreMarked may_commit w.out w.rows };
 }
 
 impl Workers {
@@ -165,7 +221,7 @@ impl Workers {
         ensures rest { AreAtRest self.now from result }
         ensures goes { (x : Worker) → slice_get self.now result ≡ Some x → may_go x ≡ true }
     {
-        self.going.next(from)
+        next_going(&self.rows, &self.going, from)
     }
 
     /// The first place from that one on whose worker's job is out; where there is none, how many workers there are, or that place if it is more.
@@ -174,7 +230,7 @@ impl Workers {
         ensures rest { HaveNoneOut self.now from result }
         ensures goes { (x : Worker) → slice_get self.now result ≡ Some x → may_commit x ≡ true }
     {
-        self.out.next(from)
+        next_out(&self.rows, &self.out, from)
     }
 
     /// Adds a worker with the next number. On an error, which is want of memory, the workers are as they were.
@@ -198,15 +254,23 @@ impl Workers {
         ensures taken { slice_get self.old place ≡ Some worker.new }
         ensures put { self.new ≡ slice_set self.old place worker.old }
     {
-        self.going.set(place, may_go(worker));
-        self.out.set(place, may_commit(worker));
+        mark(&mut self.going, place, may_go(worker));
+        mark(&mut self.out, place, may_commit(worker));
         exchange(&mut self.rows, place, worker);
     }
 
-    /// The worker at the place is looked at, so that where it has nothing to claim or to commit the next search may pass over it.
+    /// The worker at the place is looked at, so that where it has nothing to claim or to commit the next search passes over it.
     pub fn settle(&mut self, place: usize)
         ensures { self.new ≡ self.old }
     {
+        if place >= self.rows.len() {
+            return;
+        }
+        let worker = self.rows.get(place);
+        let goes = may_go(worker);
+        let is_out = may_commit(worker);
+        self.going.set(place, goes);
+        self.out.set(place, is_out);
         self.going.sum_up(place);
     }
 
@@ -215,8 +279,8 @@ impl Workers {
         requires { place < length self.old }
         ensures { self.new ≡ slice_set self.old place worker }
     {
-        self.going.set(place, may_go(&worker));
-        self.out.set(place, may_commit(&worker));
+        mark(&mut self.going, place, may_go(&worker));
+        mark(&mut self.out, place, may_commit(&worker));
         self.rows.set(place, worker);
     }
 

@@ -29,6 +29,31 @@ fn answered(key: &AskKey, reply: &AskReply) -> Option<Asked>
     })
 }
 
+/// How many rows there is room for from the first on. A list that grows is copied, up to the size from which on the C library moves its pages instead,
+/// of which it has none before they are written. This one is that large.
+const ROWS: usize = 4096;
+
+/// There is room for many rows, where none was put yet.
+fn make_room(rows: &mut Seq<Option<Asked>>) -> Result<(), AllocError>
+    ensures { rows.new ≡ rows.old }
+{
+    if !rows.is_empty() {
+        return Ok(());
+    }
+    rows.items.reserve(ROWS)?;
+    Ok(())
+}
+
+/// One more row: what was answered to the ask.
+fn push_row(rows: &mut Seq<Option<Asked>>, key: &AskKey, reply: &AskReply) -> Result<(), AllocError>
+    ensures ok { OnOk result (rows.new ≡ rows.old ++ Some (record { key = key.now; reply = reply.now }) ∷ []) }
+    ensures err { OnErr result (rows.new ≡ rows.old) }
+{
+    make_room(rows)?;
+    let row = answered(key, reply);
+    rows.push(row)
+}
+
 /// Whether what was answered is the ask of that attempt with that number.
 fn is_that_ask(key: &AskKey, asked: &Asked) -> bool
     ensures { result ≡ is_that_ask key.now asked.now }
@@ -169,8 +194,7 @@ impl Asks {
         let object = object_of(key);
         let last = self.rows.len();
         mark(&mut self.marks, object, last)?;
-        let row = answered(key, reply);
-        self.rows.push(row)?;
+        push_row(&mut self.rows, key, reply)?;
         // The row that stood before goes once nothing can fail any more.
         let Some(place) = known else {
             return Ok(());

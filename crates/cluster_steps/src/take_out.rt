@@ -164,8 +164,14 @@ pub fn enter(
     exchange(whole, place, node_place, here);
 }
 
+/// How many messages the context has room for from its start. A list that grows is copied, up to the size from which on the C library moves its pages
+/// instead, of which it has none before they are written. This one is that large.
+const MESSAGES: usize = 2048;
+
 /// A context with nothing in it, in which workers and their nodes come into events.
 pub fn blank_context(alloc: Global) -> Result<WorkerContext, AllocError> {
+    let mut out = no_out(alloc);
+    out.envelopes.items.reserve(MESSAGES)?;
     Ok(WorkerContext {
         me: WorkerId(0),
         worker: Boxed::new(alloc, new_worker(alloc, NodeId(0)))?,
@@ -175,7 +181,7 @@ pub fn blank_context(alloc: Global) -> Result<WorkerContext, AllocError> {
             workers: 0,
             opened: 0,
             node: Boxed::new(alloc, new_node(alloc, 0))?,
-            out: no_out(alloc),
+            out,
         },
     })
 }

@@ -45,6 +45,7 @@ pub fn write_outcomes(
 {
     let mut resolves = String::new(alloc);
     let mut releases = String::new(alloc);
+    releases.reserve(log.len())?;
     for entry in log {
         write_outcome(text, &mut resolves, &mut releases, states, entry)?;
     }

@@ -31,6 +31,8 @@ pub fn report_text(alloc: Global, log: &[Entry]) -> Result<String, AllocError>
     ensures { IfOk result (λ text. string_bytes text ≡ report_text log.now) }
 {
     let mut text = String::new(alloc);
+    // Lines are fewer than entries, and short: so the text is seldom copied as it grows.
+    text.reserve(log.len().saturating_mul(4))?;
     let noted = write_prints_and_note(alloc, &mut text, log)?;
     write_main(&mut text, log)?;
     write_outcomes(alloc, &mut text, &noted.states, log)?;

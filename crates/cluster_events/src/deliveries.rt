@@ -18,6 +18,7 @@ use std::alloc::{AllocError, Global};
 use worker_acts::Act;
 
 /// The message of that number reaches that receiver, which is its own; nothing happens where that is dead. The message is read where it stands.
+#[inline(always)]
 fn hand_over(
     alloc: Global,
     whole: &mut ClusterState,

@@ -41,6 +41,41 @@ fn add_undelivered(delivered: &mut Seq<bool>, envelopes: &Seq<Envelope>) -> Resu
     Ok(())
 }
 
+/// The same workers, which most often are none.
+#[inline(always)]
+#[tactic(auto, using(crate::proofs::Blanks::none_opened))]
+fn add_opened(
+    alloc: Global,
+    workers: &mut Workers,
+    count: u32,
+    node: NodeId,
+) -> Result<(), AllocError>
+    ensures { OnOk result (workers.new ≡ workers.old ++ repeated count (new_worker node)) }
+{
+    if count == 0 {
+        return Ok(());
+    }
+    add_workers(alloc, workers, count, node)
+}
+
+/// The messages are sent, and not delivered yet. Often there are none.
+#[inline(always)]
+#[tactic(auto, using(crate::proofs::Blanks::none_sent, crate::proofs::Blanks::none_to_deliver))]
+fn send(
+    network: &mut Seq<Envelope>,
+    delivered: &mut Seq<bool>,
+    envelopes: &mut Seq<Envelope>,
+) -> Result<(), AllocError>
+    ensures network { OnOk result (network.new ≡ network.old ++ envelopes.old) }
+    ensures delivered { OnOk result (delivered.new ≡ delivered.old ++ undelivered envelopes.old) }
+{
+    if envelopes.is_empty() {
+        return Ok(());
+    }
+    add_undelivered(delivered, envelopes)?;
+    network.append(envelopes)
+}
+
 /// The item changes places with the one that stands there.
 #[inline(always)]
 fn lay<T>(items: &mut Seq<T>, place: usize, item: &mut T)
@@ -100,10 +135,12 @@ pub fn leave_node(
         u64::from(number.0),
         &mut context.node,
     );
-    add_workers(alloc, &mut whole.workers, context.opened, number)?;
-    add_undelivered(&mut whole.delivered, &context.out.envelopes)?;
-    whole.network.append(&mut context.out.envelopes)?;
-    Ok(())
+    add_opened(alloc, &mut whole.workers, context.opened, number)?;
+    send(
+        &mut whole.network,
+        &mut whole.delivered,
+        &mut context.out.envelopes,
+    )
 }
 
 /// The worker and its node are put back, with what they made, but for the entries: these are left in the context, in which what stood in their places

@@ -72,6 +72,7 @@ fn step(
 
 /// The worker does its step, where these messages were sent so far, and then releases what no one can reach any more. A message is read where it stands.
 /// After an error nothing is said of the worker's tables.
+#[inline(always)]
 pub fn take_part(
     alloc: Global,
     here: &mut WorkerContext,

@@ -10,7 +10,6 @@ use Rattle.task_spec.specs.Births.{birth_of}
 use Rattle.task_spec.specs.declared.birth.Birth.{Birth as TBirth}
 use Rattle.meaning.specs.Runs.{Stop}
 use Rattle.meaning.specs.Runs as runs
-use Rattle.values.specs.Values.{value_of}
 use Rattle.frames.specs.Values.{value_of as run_value_of}
 use Rattle.frames.specs.Machines.{made_of}
 use Rattle.frames.specs.Courses.{Past, no_past}
@@ -81,7 +80,7 @@ stands_so script spec g args depth retries others base given answers a halts is 
 module _ (n : ℕ) (p : Piece) (a : Attempt) (of : IsPieceOf n p a) where
   pub piece_is : piece_of p ≡ piece_at a (stop_of p.stop)
   piece_is =
-      ap (λ bs. record { births = bs; prints = map value_of p.prints.items; stop = stop_of p.stop }) of.births
+      ap (λ bs. record { births = bs; prints = p.prints; stop = stop_of p.stop }) of.births
       ∙ ap (λ vs. record { births = map made_of a.births.items; prints = vs; stop = stop_of p.stop }) of.prints
 
   pub kept_so : (script : Script) (b c : meant.Birth) (base : Id) (past : Past) (given answers : List Outcome) → c ≡ b → given ≡ answers →
@@ -100,5 +99,5 @@ module _ (n : ℕ) (p : Piece) (a : Attempt) (of : IsPieceOf n p a) where
           }) same
           ∙ ap (λ bs. record { answers = past.answers ++ answers; births = past.births ++ bs; prints = past.prints ++ map run_value_of a.prints.items })
           (sym of.births)
-          ∙ ap (λ vs. record { answers = past.answers ++ answers; births = past.births ++ map birth_of p.births.items; prints = past.prints ++ vs })
+          ∙ ap (λ vs. record { answers = past.answers ++ answers; births = past.births ++ p.births; prints = past.prints ++ vs })
           (sym of.prints)

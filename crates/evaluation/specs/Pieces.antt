@@ -5,8 +5,7 @@ use Rattle.meaning.specs.Values as meant
 use Rattle.meaning.specs.Values.{Id, Named, Outcome, Trapped, Broken}
 use Rattle.meaning.specs.Runs as runs
 use Rattle.values.specs.declared.content.Content.{Content}
-use Rattle.values.specs.Values.{value_of, content_of}
-use Rattle.task_spec.specs.Births.{birth_of}
+use Rattle.values.specs.Values.{content_of}
 use Rattle.frame_laws.specs.Resuming.{after}
 use Rattle.frames.specs.Values.{value_of as run_value_of}
 use Rattle.frames.specs.Machines.{made_of}
@@ -21,10 +20,10 @@ use Rattle.evaluation.specs.declared.piece.Piece.{Piece}
 
 abbrev pub stop_of : PieceStop → runs.Stop
 stop_of (stops.Needs o) = runs.Needs (Named o)
-stop_of (stops.Ends cs) = runs.Over (map content_of cs.items)
+stop_of (stops.Ends cs) = runs.Over cs
 
 abbrev pub piece_of : Piece → runs.Piece
-piece_of p = record { births = map birth_of p.births.items; prints = map value_of p.prints.items; stop = stop_of p.stop }
+piece_of p = record { births = p.births; prints = p.prints; stop = stop_of p.stop }
 
 -- it stops where no task does
 abbrev pub IsNoTaskStop : Option runs.Stop → Type 0
@@ -51,8 +50,8 @@ Stands n past a q = (s : runs.Stop) → stopped_by n a.halt ≡ Some s → q ≡
 
 -- the piece has what the attempt of a task of so many results did
 pub record IsPieceOf (n : ℕ) (p : Piece) (a : Attempt) : Type 0 where
-  pub births : map birth_of p.births.items ≡ map made_of a.births.items
-  pub prints : map value_of p.prints.items ≡ map run_value_of a.prints.items
+  pub births : p.births ≡ map made_of a.births.items
+  pub prints : p.prints ≡ map run_value_of a.prints.items
   pub stop : stopped_by n a.halt ≡ Some (stop_of p.stop)
 
 -- all answers of one that goes on with this one
@@ -63,8 +62,8 @@ answered_so past c = past.answers ++ content_of c ∷ []
 abbrev pub past_with : Past → List Outcome → Piece → Past
 past_with past answers p = record {
   answers = past.answers ++ answers;
-  births = past.births ++ map birth_of p.births.items;
-  prints = past.prints ++ map value_of p.prints.items;
+  births = past.births ++ p.births;
+  prints = past.prints ++ p.prints;
 }
 
 -- the piece's frame, if it has one, is where the task waits that was answered and did all this

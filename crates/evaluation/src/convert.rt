@@ -9,7 +9,9 @@ ghost use Rattle.frames.specs.Machines.{argument_of, made_of};
 ghost use Rattle.evaluation.specs.TaskValues.{IsNamed, IsTaskValue, EachTaskValue, IsTaskOutcome, AreTaskArguments, IsTaskBirth, AreTaskBirths};
 
 use frames::{Made, MarkedArgument, Outcome, Value, list};
+use held::{Printed, SharedBirth};
 use ids::ObjectId;
+use sequence::Seq;
 use std::alloc::{AllocError, AllocFailed, Global};
 use std::rc::Rc;
 use task_spec::Birth;
@@ -189,14 +191,32 @@ fn to_arguments(
     Ok(copies)
 }
 
+/// What was printed, as tasks have it.
+pub(crate) fn to_prints(alloc: Global, values: &[Value]) -> Result<Seq<Printed>, ConversionError>
+    ensures value { IfOk result (λ vs. vs ≡ map value_of values.now) }
+    ensures kind { IfErr result (λ e. e ≡ ConversionError.Broken → ⊥) }
+    ensures plain { IfErr result (λ e. e ≡ ConversionError.HasOutcome → EachTaskValue (map value_of values.now) → ⊥) }
+{
+    let mut prints = Seq::new(alloc);
+    prints.items.reserve(values.len())?;
+    for value in values {
+        let inner = to_value(alloc, value)?;
+        prints.push(Printed { inner })?;
+    }
+    Ok(prints)
+}
+
 /// What makes objects, as a task has it. A task's name is moved.
-fn to_birth(alloc: Global, made: Made) -> Result<Birth, ConversionError>
-    ensures value { IfOk result (λ b. birth_of b ≡ made_of made) }
+fn to_birth(alloc: Global, made: Made) -> Result<SharedBirth, ConversionError>
+    ensures value { IfOk result (λ b. b ≡ made_of made) }
     ensures kind { IfErr result (λ e. e ≡ ConversionError.Broken → ⊥) }
     ensures plain { IfErr result (λ e. e ≡ ConversionError.HasOutcome → IsTaskBirth (made_of made) → ⊥) }
 {
     match made {
-        Made::Put(value) => Ok(Birth::Put(to_value(alloc, &value)?)),
+        Made::Put(value) => {
+            let value = to_value(alloc, &value)?;
+            Ok(SharedBirth::new(alloc, Birth::Put(value))?)
+        }
         Made::Task {
             function,
             arguments,
@@ -205,24 +225,31 @@ fn to_birth(alloc: Global, made: Made) -> Result<Birth, ConversionError>
             others,
         } => {
             let arguments = to_arguments(alloc, &arguments)?;
-            Ok(Birth::Task {
-                function,
-                arguments,
-                depth,
-                retries,
-                others,
-            })
+            Ok(SharedBirth::new(
+                alloc,
+                Birth::Task {
+                    function,
+                    arguments,
+                    depth,
+                    retries,
+                    others,
+                },
+            )?)
         }
     }
 }
 
 /// What was borne, as tasks have it.
-pub(crate) fn to_births(alloc: Global, births: Vec<Made>) -> Result<Vec<Birth>, ConversionError>
-    ensures value { IfOk result (λ bs. map birth_of bs.items ≡ map made_of births.items) }
+pub(crate) fn to_births(
+    alloc: Global,
+    births: Vec<Made>,
+) -> Result<Seq<SharedBirth>, ConversionError>
+    ensures value { IfOk result (λ bs. bs ≡ map made_of births.items) }
     ensures kind { IfErr result (λ e. e ≡ ConversionError.Broken → ⊥) }
     ensures plain { IfErr result (λ e. e ≡ ConversionError.HasOutcome → AreTaskBirths (map made_of births.items) → ⊥) }
 {
-    let mut copies = Vec::with_capacity(alloc, births.len())?;
+    let mut copies = Seq::new(alloc);
+    copies.items.reserve(births.len())?;
     for made in births {
         copies.push(to_birth(alloc, made)?)?;
     }

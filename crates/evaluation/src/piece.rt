@@ -1,6 +1,6 @@
 // A piece of a task's run.
 
-ghost use Rattle.std.specs.Prelude.{◌≡◌, ◌≤◌, ◌∷◌, ◌++◌, [], IfOk, OnOk, IfErr, None, Some, drop, map, true};
+ghost use Rattle.std.specs.Prelude.{◌≡◌, ◌≤◌, ◌∷◌, [], IfOk, IfErr, None, Some, drop, map, true};
 ghost use Rattle.meaning.specs.Values as meant;
 ghost use Rattle.meaning.specs.Values.{Id, Val, Trapped, Broken, Returned, Aborted, first_outcome, outcomes, others_of};
 ghost use Rattle.meaning.specs.Runs.{Over, stopped};
@@ -20,11 +20,13 @@ ghost use Rattle.evaluation.specs.TaskValues.{AreTaskOutcomes, IsTaskBirth, IsTa
 ghost use Rattle.evaluation.specs.Pieces.{HasBroken, IsBrokenEnd, IsBrokenStop, IsNoTaskStop, IsPieceOf, Keeps, Stands, answered_so, piece_of, stop_of};
 
 use crate::convert::{
-    ConversionError, from_arguments, from_content, from_contents, named, to_births, to_value,
-    to_values,
+    ConversionError, from_arguments, from_content, from_contents, named, to_births, to_prints,
+    to_value,
 };
 use frames::{Attempt, Compiled, Frame, Halt, Value, run_task};
+use held::{Printed, SharedBirth, SharedContent};
 use ids::ObjectId;
+use sequence::Seq;
 use std::alloc::{AllocError, AllocFailed, Global};
 use task_spec::Birth;
 use thiserror::Error;
@@ -36,7 +38,7 @@ pub enum PieceStop {
     /// At a get of this object, for which there is no answer left.
     Needs(ObjectId),
     /// At the end of the task, whose results have these contents.
-    Ends(Vec<Content>),
+    Ends(Seq<SharedContent>),
 }
 
 /// What a task does up to its next get: what it bears, in the order of the ids that the births take, what it prints,
@@ -44,9 +46,9 @@ pub enum PieceStop {
 #[derive(Drop)]
 pub struct Piece {
     /// What it bears, in the order of the ids that the births take.
-    pub births: Vec<Birth>,
+    pub births: Seq<SharedBirth>,
     /// What it prints, in order.
-    pub prints: Vec<RunValue>,
+    pub prints: Seq<Printed>,
     /// Where it stops: at a get that has no answer, or at the task's end.
     pub stop: PieceStop,
     /// Where it stops at a get, the frame from which it goes on with an answer.
@@ -88,22 +90,13 @@ impl<T: Drop> From<AllocFailed<T>> for PieceError {
     }
 }
 
-/// Adds a content at the end. Where there is room, as in a list that was made for so many, it is put there with no call.
-#[inline(always)]
-fn add(contents: &mut Vec<Content>, content: Content) -> Result<(), AllocError>
-    ensures { OnOk result (contents.new.items ≡ contents.old.items ++ content ∷ []) }
-{
-    if contents.len() < contents.capacity() {
-        contents.push_reserved(content);
-        return Ok(());
-    }
-    contents.push(content)?;
-    Ok(())
-}
-
 /// The content of the result at a place, as tasks have it. It is broken where the run has no such result.
-fn content_at(alloc: Global, values: &[Value], place: usize) -> Result<Content, ConversionError>
-    ensures value { IfOk result (λ c. content_of c ≡ first_outcome (Returned (map run_value_of (drop place values.now)))) }
+fn content_at(
+    alloc: Global,
+    values: &[Value],
+    place: usize,
+) -> Result<SharedContent, ConversionError>
+    ensures value { IfOk result (λ c. c ≡ first_outcome (Returned (map run_value_of (drop place values.now)))) }
     ensures broken { IfErr result (λ e. e ≡ ConversionError.Broken → first_outcome (Returned (map run_value_of (drop place values.now))) ≡ Trapped Broken) }
     ensures plain { IfErr result (λ e. e ≡ ConversionError.HasOutcome →
         IsTaskOutcome (first_outcome (Returned (map run_value_of (drop place values.now)))) → ⊥) }
@@ -112,33 +105,40 @@ fn content_at(alloc: Global, values: &[Value], place: usize) -> Result<Content, 
         return Err(ConversionError::Broken);
     }
     match to_value(alloc, &values[place]) {
-        Ok(value) => Ok(Content::Value(value)),
+        Ok(value) => Ok(SharedContent::new(alloc, Content::Value(value))?),
         Err(error) => Err(error),
     }
 }
 
 /// The contents of so many results, as tasks have them.
-fn of_values(alloc: Global, values: &[Value], count: usize) -> Result<Vec<Content>, ConversionError>
-    ensures value { IfOk result (λ cs. map content_of cs.items ≡ outcomes count (Returned (map run_value_of values.now))) }
+fn of_values(
+    alloc: Global,
+    values: &[Value],
+    count: usize,
+) -> Result<Seq<SharedContent>, ConversionError>
+    ensures value { IfOk result (λ cs. cs ≡ outcomes count (Returned (map run_value_of values.now))) }
     ensures broken { IfErr result (λ e. e ≡ ConversionError.Broken → HasBroken (outcomes count (Returned (map run_value_of values.now)))) }
     ensures plain { IfErr result (λ e. e ≡ ConversionError.HasOutcome →
         AreTaskOutcomes (outcomes count (Returned (map run_value_of values.now))) → ⊥) }
 {
-    let mut contents = Vec::with_capacity(alloc, count)?;
+    let mut contents = Seq::new(alloc);
+    contents.items.reserve(count)?;
     for place in 0..count {
-        add(&mut contents, content_at(alloc, values, place)?)?;
+        contents.push(content_at(alloc, values, place)?)?;
     }
     Ok(contents)
 }
 
 /// A trap, as the content of each of so many results.
 #[inline(never)]
-fn of_trap(alloc: Global, trap: Trap, count: usize) -> Result<Vec<Content>, AllocError>
-    ensures { IfOk result (λ cs. map content_of cs.items ≡ outcomes count (Aborted (trap_of trap))) }
+fn of_trap(alloc: Global, trap: Trap, count: usize) -> Result<Seq<SharedContent>, AllocError>
+    ensures { IfOk result (λ cs. cs ≡ outcomes count (Aborted (trap_of trap))) }
 {
-    let mut contents = Vec::with_capacity(alloc, count)?;
+    let mut contents = Seq::new(alloc);
+    contents.items.reserve(count)?;
     for _ in 0..count {
-        add(&mut contents, Content::Trap(trap))?;
+        let content = SharedContent::new(alloc, Content::Trap(trap))?;
+        contents.push(content)?;
     }
     Ok(contents)
 }
@@ -189,7 +189,7 @@ fn to_piece(alloc: Global, attempt: Attempt, count: usize) -> Result<Box<Piece>,
     } = attempt;
     let stop = to_stop(alloc, &halt, count)?;
     let births = to_births(alloc, births)?;
-    let prints = to_values(alloc, &prints)?;
+    let prints = to_prints(alloc, &prints)?;
     Ok(Box::new(
         alloc,
         Piece {
@@ -230,13 +230,14 @@ fn put_piece(alloc: Global, value: &RunValue) -> Result<Box<Piece>, PieceError>
     ensures only { IfErr result (λ e. e ≡ PieceError.NoMemory) }
 {
     let value = value.copy(alloc)?;
-    let mut contents = Vec::new(alloc);
-    contents.push(Content::Value(value))?;
+    let mut contents = Seq::new(alloc);
+    let content = SharedContent::new(alloc, Content::Value(value))?;
+    contents.push(content)?;
     Ok(Box::new(
         alloc,
         Piece {
-            births: Vec::new(alloc),
-            prints: Vec::new(alloc),
+            births: Seq::new(alloc),
+            prints: Seq::new(alloc),
             stop: PieceStop::Ends(contents),
             frame: None,
             steps: 0,

@@ -8,7 +8,7 @@ ghost use Rattle.frame_laws.specs.Machine as laws;
 ghost use Rattle.frame_laws.specs.Machine.{values_at};
 ghost use Rattle.frame_code.specs.Views.{given_of, spawn_of};
 ghost use Rattle.frames.specs.Values.{value_of};
-ghost use Rattle.frames.specs.Machines.{argument_of, made_of, Met};
+ghost use Rattle.frames.specs.Machines.{argument_of, made_of, Bearing, EndsBy, Met};
 
 use crate::halt::{Halt, Made, MarkedArgument};
 use crate::registers::State;
@@ -71,10 +71,20 @@ impl State {
         })
     }
 
+    /// Why the machine stops where it bears this, whose references go into registers of the call from that one on.
+    fn bears(&self, made: Made, to: u32) -> Halt
+        ensures { (a : laws.Act) → a ≡ laws.Bore (made_of made) (self.now.base + to) → EndsBy result a }
+    {
+        match Box::new(*self.registers.allocator(), made) {
+            Ok(made) => Halt::Bears(made, self.place(to)),
+            Err(error) => Halt::from(error),
+        }
+    }
+
     /// What a remote call bears, behind which the machine stands.
     #[inline(always)]
     pub(crate) fn spawned(&self, limit: usize, spawn: &Spawn) -> Result<Made, AllocError>
-        ensures { IfOk result (λ m. (code : laws.Code) → Met code limit self.now (spawn_of spawn.now) (Halt.Bears m (self.now.base + spawn.now.to))) }
+        ensures { IfOk result (λ m. (code : laws.Code) → Bearing code limit self.now (spawn_of spawn.now) (made_of m) (self.now.base + spawn.now.to)) }
     {
         self.task(limit, spawn)
     }
@@ -83,8 +93,8 @@ impl State {
     pub(crate) fn spawn(&self, limit: usize, spawn: &Spawn) -> Halt
         ensures { (code : laws.Code) → Met code limit self.now (spawn_of spawn.now) result }
     {
-        match self.task(limit, spawn) {
-            Ok(task) => Halt::Bears(task, self.place(spawn.to)),
+        match self.spawned(limit, spawn) {
+            Ok(task) => self.bears(task, spawn.to),
             Err(error) => Halt::from(error),
         }
     }
@@ -94,7 +104,7 @@ impl State {
         ensures { (code : laws.Code) (limit : ℕ) → Met code limit self.now (PutIn to (given_of value.now)) result }
     {
         match self.operand(value) {
-            Ok(value) => Halt::Bears(Made::Put(value), self.place(to)),
+            Ok(value) => self.bears(Made::Put(value), to),
             Err(halt) => halt,
         }
     }

@@ -59,8 +59,9 @@ pub enum Halt {
     Trap(Trap),
     /// An operand of the wrong kind, which a checked script never meets.
     Broken,
-    /// It bears this, whose references go into registers from that one on.
-    Bears(Made, usize),
+    /// It bears this, whose references go into registers from that one on. It stands behind a pointer, so that a halt is small: each instruction hands one
+    /// back, or room for one.
+    Bears(Box<Made>, usize),
     /// It gets this reference, whose value goes into that register.
     Asks(Value, usize),
     /// It prints this value.

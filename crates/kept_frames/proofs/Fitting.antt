@@ -1,13 +1,11 @@
 -- A frame that is kept fits the job of its attempt.
-use Rattle.std.proofs.Common.{◌≡◌, ◌+◌, List, [], ◌∷◌, ◌++◌, length, map, refl, sym, ap, ◌∙◌, subst, arith}
-use Rattle.std.proofs.lemmas.List.{length-append, length-map}
+use Rattle.std.proofs.Common.{◌≡◌, ◌+◌, List, [], ◌∷◌, ◌++◌, length, refl, sym, ap, ◌∙◌, subst, arith}
+use Rattle.std.proofs.lemmas.List.{length-append}
 use Rattle.meaning.specs.Lists.{IsFirst}
 use Rattle.meaning.specs.Values as meant
 use Rattle.meaning.specs.Runs.{Piece, piece}
 use Rattle.meaning.specs.Meaning.{replay}
 use Rattle.meaning.specs.Syntax.{Script}
-use Rattle.values.specs.Values.{value_of}
-use Rattle.task_spec.specs.Births.{birth_of}
 use Rattle.frames.specs.Courses.{Past}
 use Rattle.frames.specs.Frames.{IsWaiting}
 use Rattle.frames.specs.declared.frame.Frame.{Frame}
@@ -80,8 +78,8 @@ module _ (script : Script) (k : KnownData) (f : Frame) where
   waits_after d waits is = record {
     births = (whole_of d).births;
     prints = (whole_of d).prints;
-    borne = length-append d.job.births (map birth_of d.births) ∙ ap (λ n. length d.job.births + n) (length-map d.births birth_of) ∙ sym is.births;
-    printed = length-append d.job.prints (map value_of d.prints) ∙ ap (λ n. length d.job.prints + n) (length-map d.prints value_of) ∙ sym is.prints;
+    borne = length-append d.job.births d.births ∙ sym is.births;
+    printed = length-append d.job.prints d.prints ∙ sym is.prints;
     waits =
         subst (λ x. IsWaiting script x k.base (past k.answers (whole_of d).births (whole_of d).prints) f) (sym is.spec)
         (subst (λ x. IsWaiting script d.job.spec x (past k.answers (whole_of d).births (whole_of d).prints) f) (sym is.base)

@@ -1,13 +1,11 @@
 -- A history replays to one run.
-use Rattle.std.proofs.Common.{◌≡◌, ℕ, true, false, Bool, List, [], ◌∷◌, ◌++◌, map}
+use Rattle.std.proofs.Common.{◌≡◌, ℕ, true, false, Bool, List, [], ◌∷◌, ◌++◌}
 use Rattle.std.proofs.Common.{Option, Some, None, refl, sym, ap, ◌∙◌, subst, inl, inr}
 use Rattle.meaning.specs.Syntax.{Script}
 use Rattle.meaning.specs.Meaning.{replay}
 use Rattle.meaning.specs.Values.{Birth, Named, Value}
 use Rattle.meaning.specs.Runs as runs
 use Rattle.meaning.specs.Runs.{Piece}
-use Rattle.values.specs.Values.{value_of}
-use Rattle.task_spec.specs.Births.{birth_of}
 use Rattle.evaluation.specs.declared.piece.PieceStop.{PieceStop}
 use Rattle.evaluation.specs.declared.piece.PieceStop.TheVariants as stops
 use Rattle.evaluation.specs.Pieces.{stop_of}
@@ -58,9 +56,9 @@ one_work script d f same is others =
     let again : replay_of script d.job ≡ replay_of script f.job = ap (λ (j : Job). replay script j.spec j.base j.answers) same in
     let whole : whole_of d ≡ whole_of f = sym is ∙ again ∙ others in
     outcomes _ _ _ _ _ _
-    (same_rest d.job.births f.job.births (map birth_of d.births) (map birth_of f.births) (ap (λ (j : Job). j.births) same)
+    (same_rest d.job.births f.job.births d.births f.births (ap (λ (j : Job). j.births) same)
     (ap (λ (p : Piece). p.births) whole))
-    (same_rest d.job.prints f.job.prints (map value_of d.prints) (map value_of f.prints) (ap (λ (j : Job). j.prints) same)
+    (same_rest d.job.prints f.job.prints d.prints f.prints (ap (λ (j : Job). j.prints) same)
     (ap (λ (p : Piece). p.prints) whole))
     (same_stop d.stop ∙ ap (λ (p : Piece). meant_stop p.stop) whole ∙ sym (same_stop f.stop))
 

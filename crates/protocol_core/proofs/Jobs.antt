@@ -1,5 +1,5 @@
 -- Jobs that are given out, and what is handed in as done on them.
-use Rattle.std.proofs.Common.{◌≡◌, ℕ, Bool, true, false, List, [], ◌∷◌, ◌++◌, map, length, arith, Option, Some, None, IfSome, refl, sym, ap, ◌∙◌, subst, inl, inr, if◌then◌else◌}
+use Rattle.std.proofs.Common.{◌≡◌, ℕ, Bool, true, false, List, [], ◌∷◌, ◌++◌, length, arith, Option, Some, None, IfSome, refl, sym, ap, ◌∙◌, subst, inl, inr, if◌then◌else◌}
 use Rattle.meaning.specs.Lists.{IsFirst}
 use Rattle.meaning.specs.Values as meant
 use Rattle.meaning.specs.Values.{Put, Task, main_birth}
@@ -8,8 +8,6 @@ use Rattle.meaning.specs.Kinds.{IsBirthOf, MarkedOf}
 use Rattle.meaning.specs.Meaning.{replay}
 use Rattle.kind_laws.specs.Law.{HasKinds}
 use Rattle.script_check.specs.Scripts.{IsWellTyped}
-use Rattle.values.specs.Values.{value_of}
-use Rattle.task_spec.specs.Births.{birth_of}
 use Rattle.evaluation.specs.declared.piece.PieceStop.{PieceStop}
 use Rattle.evaluation.specs.declared.piece.PieceStop.TheVariants as stops
 use Rattle.evaluation.specs.Pieces as pieces
@@ -150,7 +148,7 @@ IsTrueOn script job d =
 
 true_on : (script : Script) (d : Done) → IsTrueOf script d → IsTrueOn script d.job (work_of d.births d.prints d.stop)
 true_on script d h =
-    h ∙ ap (λ stop. record { births = d.job.births ++ map birth_of d.births; prints = d.job.prints ++ map value_of d.prints; stop = stop }) (sym (same_stop d.stop))
+    h ∙ ap (λ stop. record { births = d.job.births ++ d.births; prints = d.job.prints ++ d.prints; stop = stop }) (sym (same_stop d.stop))
 
 -- one attempt is out as that job
 one_out : (c : ClusterState) (j : ℕ) (run : Execution) → IsOutAs c j run → (g : JobRecord) (x : Worker) (other : Execution) → item_at c.jobs j ≡ Some g → worker_at c g.worker ≡ Some x → x.run ≡ Some other → run ≡ other

@@ -88,7 +88,7 @@ fn handed_for<S: ScriptName>(
         prints,
         stop,
     } = done.into_parts();
-    Ok(CommitInput::OfJob(outcomes_of(alloc, births, prints, stop)?))
+    Ok(CommitInput::OfJob(outcomes_of(births, prints, stop)))
 }
 
 /// What comes with an event that is no commit is of no use.

@@ -1,13 +1,11 @@
 -- What was handed in with a commit of a run, its replay hands in again.
-use Rattle.std.proofs.Common.{◌≡◌, ℕ, Bool, true, false, List, ◌++◌, map, Option, Some, None, refl, sym, ap, ◌∙◌, subst, inl, inr}
+use Rattle.std.proofs.Common.{◌≡◌, ℕ, Bool, true, false, List, ◌++◌, Option, Some, None, refl, sym, ap, ◌∙◌, subst, inl, inr}
 use Rattle.std.specs.Prelude.{◌&&◌, not}
 use Rattle.meaning.specs.Meaning.{replay}
 use Rattle.meaning.specs.Runs as runs
 use Rattle.meaning.specs.Runs.{Piece}
 use Rattle.meaning.specs.Syntax.{Script}
 use Rattle.meaning.specs.Values as meant
-use Rattle.values.specs.Values.{value_of}
-use Rattle.task_spec.specs.Births.{birth_of}
 use Rattle.evaluation.specs.declared.piece.PieceStop.{PieceStop}
 use Rattle.evaluation.specs.declared.piece.PieceStop.TheVariants as stops
 use Rattle.evaluation.specs.Pieces as pieces
@@ -42,8 +40,8 @@ true_on : (script : Script) (d : Done) → IsTrueOf script d → IsTrueOn script
 true_on script d h =
     h
     ∙ ap (λ stop. record {
-      births = d.job.births ++ map birth_of d.births;
-      prints = d.job.prints ++ map value_of d.prints;
+      births = d.job.births ++ d.births;
+      prints = d.job.prints ++ d.prints;
       stop = stop;
     }) (sym (same_stop d.stop))
 
@@ -86,7 +84,7 @@ true_again : (script : Script) (d : Done) (job : JobParts) → d.job ≡ job →
 unfolding piece
 true_again script d job same is_true =
     ap (λ (j : Job). replay script j.spec j.base j.answers) (sym same) ∙ is_true
-    ∙ ap (λ (j : Job). piece (j.births ++ map birth_of d.births) (j.prints ++ map value_of d.prints) (pieces.stop_of d.stop)) same
+    ∙ ap (λ (j : Job). piece (j.births ++ d.births) (j.prints ++ d.prints) (pieces.stop_of d.stop)) same
 
 nothing_apart : (w : Outcomes) → Nothing ≡ OfJob w → ⊥
 nothing_apart w e = cc

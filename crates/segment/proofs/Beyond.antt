@@ -1,15 +1,10 @@
 -- A piece, and the piece without what a job has already.
-use Rattle.std.proofs.Common.{◌≡◌, List, [], ◌∷◌, ◌++◌, map, length, drop, sym, ap, ◌∙◌, refl}
-use Rattle.std.proofs.lemmas.List.{drop-map}
+use Rattle.std.proofs.Common.{◌≡◌, List, [], ◌∷◌, ◌++◌, length, drop, sym, ap, ◌∙◌, refl}
 use Rattle.meaning.specs.Lists.{IsFirst}
 use Rattle.meaning.specs.Meaning.{replay}
 use Rattle.meaning.specs.Syntax.{Script}
 use Rattle.meaning.specs.Runs as runs
 use Rattle.meaning.specs.Values as meant
-use Rattle.values.specs.declared.value.RunValue.{RunValue}
-use Rattle.values.specs.Values.{value_of}
-use Rattle.task_spec.specs.declared.birth.Birth.{Birth}
-use Rattle.task_spec.specs.Births.{birth_of}
 use Rattle.evaluation.specs.declared.piece.Piece.{Piece}
 use Rattle.evaluation.specs.Pieces.{piece_of, stop_of}
 use Rattle.segment.specs.Jobs.{JobParts, replay_of, beyond, whole_of}
@@ -21,13 +16,10 @@ made bs vs s = record { births = bs; prints = vs; stop = s }
 parts_equal : (bs cs : List meant.Birth) (vs ws : List meant.Value) (s t : runs.Stop) → bs ≡ cs → vs ≡ ws → s ≡ t → made bs vs s ≡ made cs ws t
 parts_equal bs cs vs ws s t eb ev es = ap (λ x. made x vs s) eb ∙ ap (λ x. made cs x s) ev ∙ ap (λ x. made cs ws x) es
 
-pub beyond_made : (j : JobParts) (p : Piece) (r : runs.Piece) (bs : List Birth) (vs : List RunValue) → piece_of p ≡ r → bs ≡ drop (length j.births) p.births.items → vs ≡ drop (length j.prints) p.prints.items → made (map birth_of bs) (map value_of vs) (stop_of p.stop) ≡ beyond j r
+pub beyond_made : (j : JobParts) (p : Piece) (r : runs.Piece) (bs : List meant.Birth) (vs : List meant.Value) → piece_of p ≡ r →
+    bs ≡ drop (length j.births) p.births → vs ≡ drop (length j.prints) p.prints → made bs vs (stop_of p.stop) ≡ beyond j r
 beyond_made j p r bs vs e eb ev =
-    parts_equal (map birth_of bs) (drop (length j.births) (map birth_of p.births.items)) (map value_of vs) (drop (length j.prints) (map value_of p.prints.items)) (stop_of p.stop) (stop_of p.stop)
-    (ap (map birth_of) eb ∙ sym (drop-map birth_of (length j.births) p.births.items))
-    (ap (map value_of) ev ∙ sym (drop-map value_of (length j.prints) p.prints.items))
-    refl
-    ∙ ap (beyond j) e
+    parts_equal bs (drop (length j.births) p.births) vs (drop (length j.prints) p.prints) (stop_of p.stop) (stop_of p.stop) eb ev refl ∙ ap (beyond j) e
 
 -- a replay on what a job has is the job's
 pub replayed_as : (script : Script) (k j : JobParts) (p : runs.Piece) (spec : meant.Birth) (cs : List meant.Outcome) → k ≡ j → spec ≡ k.spec → cs ≡ k.answers →
@@ -46,9 +38,9 @@ pub whole_made : (j : JobParts) (p : Piece) (r : runs.Piece) → IsFirst j.birth
 whole_made j p r fb fv e =
     let bs = j.births in
     let vs = j.prints in
-    let nb : drop (length bs) r.births ≡ map birth_of p.births.items = sym (ap (λ q. q.births) e) in
-    let nv : drop (length vs) r.prints ≡ map value_of p.prints.items = sym (ap (λ q. q.prints) e) in
-    parts_equal r.births (bs ++ map birth_of p.births.items) r.prints (vs ++ map value_of p.prints.items) r.stop (stop_of p.stop)
+    let nb : drop (length bs) r.births ≡ p.births = sym (ap (λ q. q.births) e) in
+    let nv : drop (length vs) r.prints ≡ p.prints = sym (ap (λ q. q.prints) e) in
+    parts_equal r.births (bs ++ p.births) r.prints (vs ++ p.prints) r.stop (stop_of p.stop)
     (beginning_and_rest bs r.births fb ∙ ap (λ x. bs ++ x) nb)
     (beginning_and_rest vs r.prints fv ∙ ap (λ x. vs ++ x) nv)
     (sym (ap (λ q. q.stop) e))

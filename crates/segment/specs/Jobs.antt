@@ -1,15 +1,11 @@
 -- What a job is, and what is done on it.
-use Rattle.std.specs.Prelude.{◌≡◌, ℕ, List, ◌++◌, map, length, drop, Some}
+use Rattle.std.specs.Prelude.{◌≡◌, ℕ, List, ◌++◌, length, drop, Some}
 use Rattle.meaning.specs.Lists.{IsFirst}
-use Rattle.meaning.specs.Values.{Birth as AnyBirth, Put, Task}
+use Rattle.meaning.specs.Values.{Birth, Put, Task, Value}
 use Rattle.meaning.specs.Syntax.{Function, Script}
 use Rattle.meaning.specs.Runs.{Piece}
 use Rattle.meaning.specs.Meaning.{find, run_birth, replay}
 use Rattle.meaning.specs.Kinds.{MarkedOf, AnswersFit}
-use Rattle.values.specs.declared.value.RunValue.{RunValue}
-use Rattle.values.specs.Values.{value_of}
-use Rattle.task_spec.specs.declared.birth.Birth.{Birth}
-use Rattle.task_spec.specs.Births.{birth_of}
 use Rattle.frame_laws.specs.Steps.{HasSteps}
 use Rattle.evaluation.specs.declared.piece.PieceStop.{PieceStop}
 use Rattle.evaluation.specs.Pieces.{stop_of}
@@ -20,7 +16,7 @@ pub use Rattle.held.specs.declared.job.JobParts.{JobParts}
 pub record Done : Type 0 where
   pub job : JobParts
   pub births : List Birth
-  pub prints : List RunValue
+  pub prints : List Value
   pub stop : PieceStop
 
 -- what the job's task does on the job's answers
@@ -35,13 +31,13 @@ beyond j p = record { births = drop (length j.births) p.births; prints = drop (l
 abbrev pub whole_of : Done → Piece
 whole_of d =
     record {
-      births = d.job.births ++ map birth_of d.births;
-      prints = d.job.prints ++ map value_of d.prints;
+      births = d.job.births ++ d.births;
+      prints = d.job.prints ++ d.prints;
       stop = stop_of d.stop;
     }
 
 -- a task of one of the script's functions, with its results and with arguments of its parameters' kinds
-abbrev pub IsTaskOf : Script → AnyBirth → Type 0
+abbrev pub IsTaskOf : Script → Birth → Type 0
 IsTaskOf script (Put v) = ⊥
 IsTaskOf script (Task g args depth retries others) =
     (f : Function) × (find script g ≡ Some f) × MarkedOf args f.parameters × (length f.others ≡ others)

@@ -9,9 +9,9 @@ ghost use Rattle.segment.specs.Pieces.{done_of};
 use crate::job::Job;
 use crate::script_name::ScriptName;
 use evaluation::{Frame, Piece, PieceStop};
+use held::{Printed, SharedBirth};
+use sequence::Seq;
 use std::marker::Model;
-use task_spec::Birth;
-use values::RunValue;
 
 /// A job that was run, and the plain parts of what was done on it.
 #[derive(Drop)]
@@ -19,9 +19,9 @@ pub struct DoneParts<S: ScriptName> {
     /// The job as it was given out.
     pub job: Job<S>,
     /// What the attempt bore beyond what the job had.
-    pub births: Vec<Birth>,
+    pub births: Seq<SharedBirth>,
     /// What the attempt printed beyond what the job had.
-    pub prints: Vec<RunValue>,
+    pub prints: Seq<Printed>,
     /// Where it stopped: at a get that has no answer yet, or at the task's end.
     pub stop: PieceStop,
 }
@@ -38,7 +38,6 @@ pub struct Done<S: ScriptName> {
 impl<S: ScriptName> Model for Done<S> {
     ghost use Rattle.std.specs.Coded.{codes};
     ghost use Rattle.held.specs.Codes.{birth_code, outcome_code, value_code};
-    ghost use Rattle.values.specs.contracts.value.RunValue as run_values;
     ghost use Rattle.std.specs.Prelude.{IfSome};
     ghost use Rattle.segment.specs.Jobs.{Done, IsTrueOf, HasStepsOf};
     ghost use Rattle.segment.specs.Frames.{WaitsAfter};
@@ -46,7 +45,7 @@ impl<S: ScriptName> Model for Done<S> {
 
     ghost Value = { Done };
 
-    ghost coded = { Prim.hlevel (codes, birth_code, value_code, outcome_code, run_values.the_row.coded) };
+    ghost coded = { Prim.hlevel (codes, birth_code, value_code, outcome_code) };
 
     ghost view = { λ d. done_of d.job d.piece.value };
 
@@ -74,17 +73,17 @@ impl<S: ScriptName> Done<S> {
     }
 
     /// What the attempt bore beyond what the job had.
-    pub fn births(&self) -> &[Birth]
+    pub fn births(&self) -> &[SharedBirth]
         ensures { result.now ≡ self.now.births }
     {
-        &self.piece.births
+        self.piece.births.as_slice()
     }
 
     /// What the attempt printed beyond what the job had.
-    pub fn prints(&self) -> &[RunValue]
+    pub fn prints(&self) -> &[Printed]
         ensures { result.now ≡ self.now.prints }
     {
-        &self.piece.prints
+        self.piece.prints.as_slice()
     }
 
     /// Where the job stopped: at a get of an object for which there was no answer left, or at the task's end.
@@ -113,8 +112,8 @@ impl<S: ScriptName> Done<S> {
     /// The job, and what was done on it.
     pub fn into_parts(self) -> DoneParts<S>
         ensures job { result.job ≡ self.job }
-        ensures births { result.births.items ≡ self.births }
-        ensures prints { result.prints.items ≡ self.prints }
+        ensures births { result.births ≡ self.births }
+        ensures prints { result.prints ≡ self.prints }
         ensures stop { result.stop ≡ self.stop }
         ensures is_true { IsTrueOf S.script self }
     {

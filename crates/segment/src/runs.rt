@@ -11,19 +11,20 @@ ghost use Rattle.segment.specs.Pieces.{done_of};
 
 use evaluation::{Compiled, Frame, Piece, PieceError, go_on, run_piece};
 use held::{JobParts, SharedBirth};
+use sequence::Seq;
 use std::alloc::{AllocError, Global};
 use task_spec::Birth;
 
 /// Leaves the items after the first `count`.
-fn leave_after<T: Drop>(items: &mut Vec<T>, count: usize) -> Result<(), AllocError>
-    ensures { OnOk result (items.new.items ≡ drop count items.old.items) }
+fn leave_after<T: Drop>(all: &mut Seq<T>, count: usize) -> Result<(), AllocError>
+    ensures { OnOk result (all.new ≡ drop count all.old) }
 {
     if count == 0 {
         return Ok(());
     }
-    let at = count.min(items.len());
-    let rest = items.split_off(at)?;
-    *items = rest;
+    let at = count.min(all.items.len());
+    let rest = all.items.split_off(at)?;
+    all.items = rest;
     Ok(())
 }
 

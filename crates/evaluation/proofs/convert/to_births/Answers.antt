@@ -1,5 +1,4 @@
 use Rattle.std.proofs.Common.{◌≡◌, ◌∷◌, ◌++◌, ◌∙◌, ap, map, sym, subst, rules}
-use Rattle.task_spec.specs.Births.{birth_of}
 use Rattle.frames.specs.Machines.{made_of}
 use Rattle.evaluation.specs.TaskValues.{AreTaskBirths}
 use Rattle.evaluation.specs.declared.convert.ConversionError.{ConversionError}
@@ -14,5 +13,5 @@ returns-in_err-to_birth-clause-plain c =
     let took : map made_of c.loop-made.made-iterator.rest.items ≡ made_of c.in-Some.made ∷ rest = search (rules, c.in-Some.ensures.steps, c.in-Some.ensures.goes) in
     handed_on (λ (e : ConversionError). e ≡ HasOutcome → AreTaskBirths (map made_of c.args.births.items) → ⊥) c.from_residual-in_err-to_birth.result c.in_err-to_birth.field-0.0 c.from_residual-in_err-to_birth.ensures.1
     (λ e p. c.in_err-to_birth.ensures.plain e
-    (births_behind (map birth_of c.loop-made.copies.items) (made_of c.in-Some.made ∷ rest)
-    (subst AreTaskBirths (sym c.loop-made.invariant ∙ ap (λ l. map birth_of c.loop-made.copies.items ++ l) took) p)).0)
+    (births_behind c.loop-made.copies (made_of c.in-Some.made ∷ rest)
+    (subst AreTaskBirths (sym c.loop-made.invariant ∙ ap (λ l. c.loop-made.copies ++ l) took) p)).0)

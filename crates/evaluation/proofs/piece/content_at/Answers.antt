@@ -9,9 +9,9 @@ use Rattle.evaluation.proofs.piece.content_at.Goals as goal
 pub returns-then-place-values-clause-broken : goal.returns-then-place-values-clause-broken
 returns-then-place-values-clause-broken c = λ e. none_left c.args.values.now c.args.place (omega (arith, c.if-place-values.true))
 
-pub returns-in-Ok-clause-value : goal.returns-in-Ok-clause-value
-returns-in-Ok-clause-value c =
-    ap Val c.in-Ok.ensures.value
+pub returns-in_ok-new-in-Ok-clause-value : goal.returns-in_ok-new-in-Ok-clause-value
+returns-in_ok-new-in-Ok-clause-value c =
+    c.in_ok-new-in-Ok.ensures ∙ ap Val c.in-Ok.ensures.value
     ∙ sym (ap (λ vs. first_outcome (Returned vs))
     (next_of value_of c.args.values.now c.args.place c.index-values-place.result (omega (arith, c.if-place-values.false)) c.index-values-place.is))
 

@@ -1,6 +1,4 @@
 use Rattle.std.proofs.Common.{◌≡◌, ◌++◌, sym, ap, subst, ◌∙◌, map, Some}
-use Rattle.values.specs.Values.{value_of as task_value}
-use Rattle.task_spec.specs.Births.{birth_of}
 use Rattle.meaning.specs.Runs as runs
 use Rattle.frames.specs.Values.{value_of}
 use Rattle.frames.specs.Courses.{Past}
@@ -69,7 +67,7 @@ pub returns-clause-value : goal.returns-clause-value
 returns-clause-value c =
     let is = c.in_ok-new.ensures.ok in
     record {
-      births = ap (λ (p : Piece). map birth_of p.births.items) is ∙ c.in_ok-births.ensures.value;
-      prints = ap (λ (p : Piece). map task_value p.prints.items) is ∙ c.in_ok-prints.ensures.value ∙ ap (map value_of) c.deref.ensures.value;
+      births = ap (λ (p : Piece). p.births) is ∙ c.in_ok-births.ensures.value;
+      prints = ap (λ (p : Piece). p.prints) is ∙ c.in_ok-prints.ensures.value ∙ ap (map value_of) c.deref.ensures.value;
       stop = c.in_ok-stop.ensures.value ∙ ap (λ (p : Piece). Some (stop_of p.stop)) (sym is);
     }

@@ -1,4 +1,4 @@
-pub mod Bounding
+pub mod Bounds
 pub mod Copying
 pub mod Going
 pub mod Idle

@@ -33,7 +33,7 @@ fn is_behind(bound: ObjectId, object: ObjectId) -> bool
 }
 
 /// Raises the bound of the object's owner, so that the object is one of those that may have been noted; those noted before stay so.
-#[tactic(auto, using(crate::proofs::Bounding::noted_there, crate::proofs::Bounding::kept_there, crate::proofs::Bounding::noted_last, crate::proofs::Bounding::kept_before))]
+#[tactic(auto, using(crate::proofs::Bounds::noted_at, crate::proofs::Bounds::kept_at, crate::proofs::Bounds::noted_last, crate::proofs::Bounds::kept_last))]
 fn note(all: &mut Seq<ObjectId>, object: ObjectId) -> Result<(), AllocError>
     ensures noted { OnOk result (may_be_noted all.new object ≡ true) }
     ensures kept { (o : Id) → may_be_noted all.old o ≡ true → may_be_noted all.new o ≡ true }

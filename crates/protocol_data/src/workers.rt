@@ -267,10 +267,13 @@ impl Workers {
             return;
         }
         let worker = self.rows.get(place);
+        // Whose job is out has both marks.
+        if may_commit(worker) {
+            return;
+        }
         let goes = may_go(worker);
-        let is_out = may_commit(worker);
         self.going.set(place, goes);
-        self.out.set(place, is_out);
+        self.out.set(place, false);
         self.going.sum_up(place);
     }
 

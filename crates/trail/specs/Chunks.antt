@@ -18,6 +18,11 @@ last_items (Some c) = items_of c
 abbrev pub items_in : {T A B C : Type 0} → List (Arc (Vec (Arc T A) B) C) → List T
 items_in cs = flat_map items_of cs
 
+-- the full chunks, if there are any
+abbrev pub chunks_of : {X A B : Type 0} → Option (Arc (Vec X A) B) → List X
+chunks_of None = []
+chunks_of (Some c) = (arc_value c).items
+
 -- each chunk has 64 items
 abbrev pub AreFull : {T A B C : Type 0} → List (Arc (Vec (Arc T A) B) C) → Type 0
 AreFull [] = Unit {0}

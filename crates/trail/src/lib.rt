@@ -3,7 +3,7 @@
 
 ghost use Rattle.std.specs.Prelude.{◌≡◌, ◌<◌, ◌≤◌, ◌∷◌, ◌++◌, [], IfOk, OnOk, OnErr, length, map};
 ghost use Rattle.std.specs.Arc.{arc_value};
-ghost use Rattle.trail.specs.Chunks.{AreFull, items_in, items_of, last_items};
+ghost use Rattle.trail.specs.Chunks.{AreFull, chunks_of, items_in, items_of, last_items};
 
 use std::alloc::{AllocError, Global};
 use std::marker::Model;
@@ -13,25 +13,26 @@ use std::sync::Arc;
 /// So many items share a chunk.
 const ITEMS_OF_A_CHUNK: usize = 64;
 
-/// A list that contracts see as a list. Copies share its items, in chunks of 64: one costs as much as a number for each chunk, whatever the items are.
-/// An item is added in place where no copy shares the chunk behind the last full one; else that chunk is made anew, with the same items. The
-/// list and its copies may stand in different threads.
+/// A list that contracts see as a list. Copies share its items, in chunks of 64, and the list of the full chunks: one costs two pointers, however many
+/// items there are. An item is added in place where no copy shares the chunk behind the last full one; else that chunk is made anew, with the same
+/// items, and so is the list of the full ones where one more comes to it. The list and its copies may stand in different threads.
 #[derive(Drop)]
 pub struct Trail<T> {
-    full: Vec<Arc<Vec<Arc<T>>>>,
+    full: Option<Arc<Vec<Arc<Vec<Arc<T>>>>>>,
     last: Option<Arc<Vec<Arc<T>>>>,
     count: usize,
 }
 
 impl<T> Model for Trail<T> {
     ghost use Rattle.std.specs.Prelude.{◌≡◌, ◌≤◌, ◌++◌, List, length};
-    ghost use Rattle.trail.specs.Chunks.{AreFull, items_in, last_items};
+    ghost use Rattle.trail.specs.Chunks.{AreFull, chunks_of, items_in, last_items};
 
     ghost Value = { List T };
 
-    ghost view = { λ t. items_in t.full.items ++ last_items t.last };
+    ghost view = { λ t. items_in (chunks_of t.full) ++ last_items t.last };
 
-    ghost invariant = { λ t. (t.count ≡ length (items_in t.full.items ++ last_items t.last)) × AreFull t.full.items × (length (last_items t.last) ≤ 64) };
+    ghost invariant = { λ t. (t.count ≡ length (items_in (chunks_of t.full) ++ last_items t.last)) × AreFull (chunks_of t.full)
+        × (length (last_items t.last) ≤ 64) };
 }
 
 /// The same chunks.
@@ -56,6 +57,19 @@ fn share_items<T: Drop>(shared: &mut Vec<Arc<T>>, items: &[Arc<T>]) -> Result<()
 {
     for item in items {
         shared.push(Arc::try_clone(item)?)?;
+    }
+    Ok(())
+}
+
+/// Adds the items of the chunks, which are shared from then on.
+fn add_items<T: Drop>(
+    shared: &mut Vec<Arc<T>>,
+    chunks: &[Arc<Vec<Arc<T>>>],
+) -> Result<(), AllocError>
+    ensures { OnOk result (map arc_value shared.new.items ≡ map arc_value shared.old.items ++ items_in chunks.now) }
+{
+    for chunk in chunks {
+        share_items(shared, chunk)?;
     }
     Ok(())
 }
@@ -101,16 +115,63 @@ fn add_to<T: Drop>(
     Ok(Arc::new(alloc, items)?)
 }
 
+/// The same full chunks, if there are any.
+fn share_full<T: Drop>(
+    full: &Option<Arc<Vec<Arc<Vec<Arc<T>>>>>>,
+) -> Result<Option<Arc<Vec<Arc<Vec<Arc<T>>>>>>, AllocError>
+    ensures { IfOk result (λ other. chunks_of other ≡ chunks_of full.now) }
+{
+    match full {
+        None => Ok(None),
+        Some(chunks) => Ok(Some(Arc::try_clone(chunks)?)),
+    }
+}
+
+/// The first full chunk.
+fn first_chunk<T: Drop>(
+    alloc: Global,
+    chunk: Arc<Vec<Arc<T>>>,
+) -> Result<Arc<Vec<Arc<Vec<Arc<T>>>>>, AllocError>
+    ensures { IfOk result (λ chunks. (arc_value chunks).items ≡ chunk ∷ []) }
+{
+    let mut chunks = Vec::new(alloc);
+    chunks.push(chunk)?;
+    Ok(Arc::new(alloc, chunks)?)
+}
+
+/// The full chunks with one more, which is added in place where nobody else has their list.
+fn add_full<T: Drop>(
+    alloc: Global,
+    full: Option<Arc<Vec<Arc<Vec<Arc<T>>>>>>,
+    chunk: Arc<Vec<Arc<T>>>,
+) -> Result<Arc<Vec<Arc<Vec<Arc<T>>>>>, AllocError>
+    ensures items { IfOk result (λ chunks. items_in (arc_value chunks).items ≡ items_in (chunks_of full) ++ items_of chunk) }
+    ensures full { IfOk result (λ chunks. AreFull (chunks_of full) → length (items_of chunk) ≡ 64 → AreFull (arc_value chunks).items) }
+{
+    let Some(chunks) = full else {
+        return first_chunk(alloc, chunk);
+    };
+    let mut chunks = chunks;
+    if let Some(all) = Arc::get_mut(&mut chunks) {
+        all.push(chunk)?;
+        return Ok(chunks);
+    }
+    let mut all = share_chunks(alloc, &chunks)?;
+    all.push(chunk)?;
+    Ok(Arc::new(alloc, all)?)
+}
+
 /// The chunk behind the full ones, with an item more; where it was full it stands with those now, and the item is the first of a new one.
 fn add<T: Drop>(
     alloc: Global,
-    full: &mut Vec<Arc<Vec<Arc<T>>>>,
+    full: &mut Option<Arc<Vec<Arc<Vec<Arc<T>>>>>>,
     last: Option<Arc<Vec<Arc<T>>>>,
     item: Arc<T>,
 ) -> Result<Arc<Vec<Arc<T>>>, AllocError>
     requires { length (last_items last) ≤ 64 }
-    ensures items { IfOk result (λ chunk. items_in full.new.items ++ items_of chunk ≡ (items_in full.old.items ++ last_items last) ++ arc_value item ∷ []) }
-    ensures full { OnOk result (AreFull full.old.items → AreFull full.new.items) }
+    ensures items { IfOk result (λ chunk. items_in (chunks_of full.new) ++ items_of chunk
+        ≡ (items_in (chunks_of full.old) ++ last_items last) ++ arc_value item ∷ []) }
+    ensures full { OnOk result (AreFull (chunks_of full.old) → AreFull (chunks_of full.new)) }
     ensures room { IfOk result (λ chunk. length (items_of chunk) ≤ 64) }
 {
     let Some(chunk) = last else {
@@ -120,7 +181,7 @@ fn add<T: Drop>(
         return add_to(alloc, chunk, item);
     }
     let next = new_chunk(alloc, item)?;
-    full.push(chunk)?;
+    *full = Some(add_full(alloc, full.take(), chunk)?);
     Ok(next)
 }
 
@@ -129,8 +190,9 @@ impl<T> Trail<T> {
     pub fn new(alloc: Global) -> Trail<T>
         ensures { result ≡ [] }
     {
+        let _ = alloc;
         Trail {
-            full: Vec::new(alloc),
+            full: None,
             last: None,
             count: 0,
         }
@@ -153,7 +215,8 @@ impl<T: Drop> Trail<T> {
         let mut full = full;
         let Some(count) = count.checked_add(1) else {
             // No memory has room for one item more than these: the growth is refused.
-            full.reserve(usize::MAX)?;
+            let mut items: Vec<Arc<T>> = Vec::new(alloc);
+            items.reserve(usize::MAX)?;
             unreachable!();
         };
         let chunk = add(alloc, &mut full, last, item)?;
@@ -186,7 +249,8 @@ impl<T: Drop> Trail<T> {
     pub fn copy(&self, alloc: Global) -> Result<Trail<T>, AllocError>
         ensures { IfOk result (λ other. other ≡ self.now) }
     {
-        let full = share_chunks(alloc, &self.full)?;
+        let _ = alloc;
+        let full = share_full(&self.full)?;
         let last = share_last(&self.last)?;
         Ok(Trail {
             full,
@@ -200,8 +264,8 @@ impl<T: Drop> Trail<T> {
         ensures { IfOk result (λ items. map arc_value items.items ≡ self.now) }
     {
         let mut items = Vec::new(alloc);
-        for chunk in &self.full {
-            share_items(&mut items, chunk)?;
+        if let Some(full) = &self.full {
+            add_items(&mut items, full)?;
         }
         if let Some(chunk) = &self.last {
             share_items(&mut items, chunk)?;

@@ -1,5 +1,5 @@
 use Rattle.std.proofs.Common.{sym, ◌∙◌}
-use Rattle.protocol_data.proofs.Bounding.{noted_by}
+use Rattle.protocol_data.proofs.Bounds.{noted_by}
 use Rattle.protocol_data.proofs.attempts.note.Goals as goal
 
 pub returns-then-bounds-clause-noted : goal.returns-then-bounds-clause-noted

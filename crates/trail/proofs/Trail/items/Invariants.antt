@@ -1,7 +1,0 @@
-use Rattle.std.proofs.Common.{◌≡◌, map, take}
-use Rattle.std.specs.Arc.{arc_value}
-use Rattle.trail.specs.Chunks.{items_in}
-use Rattle.trail.proofs.Trail.items.Given as goal
-
-abbrev pub invariant-loop-chunk : goal.invariant-loop-chunk
-invariant-loop-chunk g l = map arc_value l.items.items ≡ items_in (take l.chunk-index l.chunk-items)

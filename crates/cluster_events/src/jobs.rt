@@ -11,6 +11,7 @@ ghost use Rattle.protocol.specs.Cluster.{moved};
 use crate::births::with_made;
 use crate::counting::nothing;
 use crate::within_limits::let_act;
+use boxed_value::Boxed;
 use ids::WorkerId;
 use number_lists::place_of;
 use protocol_data::{ClusterState, CommitInput, JobRecord, Outcomes, WorkerContext};
@@ -74,7 +75,7 @@ fn commit_outcomes(
     whole: &mut ClusterState,
     here: &mut WorkerContext,
     job: u64,
-    outcomes: Outcomes,
+    outcomes: Boxed<Outcomes>,
 ) -> Result<bool, AllocError>
     ensures whole { OnOk result (whole.new ≡ whole_limited whole.old (committed whole.old job (OfJob outcomes))) }
     ensures entries { IfOk result (λ taken. if_taken taken here.new.there.out.entries ≡ entries_limited (committed whole.old job (OfJob outcomes))) }

@@ -32,6 +32,7 @@ fn add_workers(
 }
 
 /// None of these envelopes was delivered yet.
+#[inline(always)]
 fn add_undelivered(delivered: &mut Seq<bool>, envelopes: &Seq<Envelope>) -> Result<(), AllocError>
     ensures { OnOk result (delivered.new ≡ delivered.old ++ undelivered envelopes.now) }
 {

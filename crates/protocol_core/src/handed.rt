@@ -10,6 +10,7 @@ ghost use Rattle.protocol_core.specs.Steps.{IsHanded, IsHandedFor, IsOut};
 
 use crate::outcomes::outcomes_of;
 use crate::same_job::{is_job_in_pace, is_job_of, is_own_job};
+use boxed_value::Boxed;
 use log_entries::Event;
 use number_lists::item_at_number;
 use protocol_data::{ClusterState, CommitInput, Execution, Phase};
@@ -63,7 +64,6 @@ fn is_done_on<S: ScriptName>(
 }
 
 /// What is handed in with the commit of the job: what was done on another job counts as nothing.
-#[inline(never)]
 fn handed_for<S: ScriptName>(
     alloc: Global,
     whole: &ClusterState,
@@ -88,7 +88,29 @@ fn handed_for<S: ScriptName>(
         prints,
         stop,
     } = done.into_parts();
-    Ok(CommitInput::OfJob(outcomes_of(births, prints, stop)))
+    let outcomes = Boxed::new(alloc, outcomes_of(births, prints, stop))?;
+    Ok(CommitInput::OfJob(outcomes))
+}
+
+/// Puts what is handed in with the commit where nothing was. It is a function of its own, so that an event with which nothing is handed in doesn't set
+/// up what it needs.
+#[inline(never)]
+fn hand_job<S: ScriptName>(
+    alloc: Global,
+    whole: &ClusterState,
+    job: u64,
+    done: Option<Done<S>>,
+    is_own: bool,
+    handed: &mut CommitInput,
+) -> Result<(), AllocError>
+    requires pace { AreInPace S.script whole.now }
+    requires own { is_own ≡ true → HaveAnswersIn whole.now done }
+    requires empty { handed.old ≡ Nothing }
+    ensures handed { OnOk result (IsHandedFor whole.now job done handed.new) }
+    ensures is_true { IfSome done (λ d. IsTrueOf S.script d) }
+{
+    *handed = handed_for(alloc, whole, job, done, is_own)?;
+    Ok(())
 }
 
 /// What comes with an event that is no commit is of no use.
@@ -116,10 +138,7 @@ pub fn hand_in<S: ScriptName>(
     ensures is_true { IfSome done (λ d. IsTrueOf S.script d) }
 {
     match event {
-        Event::Commit(job) => {
-            *handed = handed_for(alloc, whole, *job, done, is_own)?;
-            Ok(())
-        }
+        Event::Commit(job) => hand_job(alloc, whole, *job, done, is_own, handed),
         _ => {
             discard(done);
             Ok(())

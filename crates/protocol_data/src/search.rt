@@ -96,6 +96,7 @@ fn is_kept(bearer: &Option<AttemptId>, own: usize, place: usize, object: &Object
 }
 
 /// The first place from the one on, and before the other, of an object that may be released; else the other.
+#[inline(always)]
 #[tactic(auto, using(crate::proofs::Searches::one_kept, crate::proofs::Searches::not_kept_there, crate::proofs::Searches::none_kept_behind))]
 fn kept_until(
     rows: &IndexMap<u64, Object>,
@@ -119,6 +120,7 @@ fn kept_until(
 }
 
 /// The place behind the last one, from the one on and before the other, of an object that may be released; else the one.
+#[inline(always)]
 #[tactic(auto, using(crate::proofs::Searches::one_more_kept))]
 fn kept_behind(
     rows: &IndexMap<u64, Object>,

@@ -7,6 +7,7 @@ ghost use Rattle.worker_acts.specs.Acts.{act_step, received};
 
 use crate::messages::reached;
 use crate::ticks::tick_step;
+use boxed_value::Boxed;
 use commit_steps::{claim_step, commit_step};
 use death_steps::{notice_node_step, notice_step};
 use ids::{NodeId, WorkerId};
@@ -22,7 +23,7 @@ pub enum Act {
     /// Its attempt is given out as the job of that number.
     Claim(u64),
     /// What was done on its attempt's job is committed.
-    Commit(Outcomes),
+    Commit(Boxed<Outcomes>),
     /// The message of that number reaches it, if one was sent that has it.
     Receive(u64),
     /// It sends again what it waits for.

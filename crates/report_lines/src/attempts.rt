@@ -6,9 +6,11 @@ ghost use Rattle.event_log.specs.Entries as logged;
 ghost use Rattle.event_log.specs.Words.{accepted_in, ended_in, faulted_in};
 ghost use Rattle.report_lines.specs.Attempts.{any, attempt_in, attempt_line, state_of, AreStatesOf};
 ghost use Rattle.report_lines.specs.Sets.{has};
+ghost use Rattle.report_lines.specs.Texts.{attempt_text};
 
 use crate::attempt_set::AttemptSet;
 use crate::main_end::is_main;
+use crate::numbers::write_number;
 use ids::{AttemptId, WorkerId};
 use log_entries::Entry;
 use std::alloc::{AllocError, Global};
@@ -78,7 +80,19 @@ impl AttemptStates {
     }
 }
 
-/// Writes `attempt a1.1#0 w2 accepted`, with that word for the attempt's state. One format has all: with those of ids in it, it would come in more pieces.
+/// Writes `a1.1#0`.
+fn write_id(text: &mut String, attempt: AttemptId) -> Result<(), AllocError>
+    ensures { OnOk result (string_bytes text.new ≡ string_bytes text.old ++ attempt_text attempt) }
+{
+    text.push_str("a")?;
+    write_number(text, u64::from(attempt.object.owner.0))?;
+    text.push_str(".")?;
+    write_number(text, attempt.object.serial)?;
+    text.push_str("#")?;
+    write_number(text, u64::from(attempt.number))
+}
+
+/// Writes `attempt a1.1#0 w2 accepted`, with that word for the attempt's state. Its pieces are written one by one: a format costs twice as much.
 fn write_line(
     text: &mut String,
     attempt: AttemptId,
@@ -88,11 +102,13 @@ fn write_line(
     ensures { (log : List logged.Entry) → state.now ≡ state_of log attempt → OnOk result
         (string_bytes text.new ≡ string_bytes text.old ++ attempt_line log attempt worker) }
 {
-    let owner = attempt.object.owner.0;
-    let serial = attempt.object.serial;
-    let number = attempt.number;
-    let worker = worker.0;
-    writeln!(text, "attempt a{owner}.{serial}#{number} w{worker} {state}")
+    text.push_str("attempt ")?;
+    write_id(text, attempt)?;
+    text.push_str(" w")?;
+    write_number(text, u64::from(worker.0))?;
+    text.push_str(" ")?;
+    text.push_str(state)?;
+    text.push_str("\n")
 }
 
 /// Writes a line where the entry begins another attempt than main's.

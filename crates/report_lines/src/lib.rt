@@ -7,6 +7,7 @@ mod attempts;
 mod faults;
 pub mod main_end;
 mod noted;
+mod numbers;
 mod objects;
 mod outcomes;
 mod prints;

@@ -4,6 +4,7 @@ ghost use Rattle.std.specs.Prelude.{◌≡◌, ◌++◌, OnOk, string_bytes};
 ghost use Rattle.report_lines.specs.Objects.{resolve_in, release_in};
 
 use crate::faults::write_fault;
+use crate::numbers::write_number;
 use log_entries::Entry;
 use std::alloc::AllocError;
 
@@ -26,6 +27,9 @@ pub fn write_release(text: &mut String, entry: &Entry) -> Result<(), AllocError>
     let Entry::Released(object) = entry else {
         return Ok(());
     };
-    let (owner, serial) = (object.owner.0, object.serial);
-    writeln!(text, "released o{owner}.{serial}")
+    text.push_str("released o")?;
+    write_number(text, u64::from(object.owner.0))?;
+    text.push_str(".")?;
+    write_number(text, object.serial)?;
+    text.push_str("\n")
 }

@@ -64,7 +64,7 @@ fn is_one_left(object: &Object) -> bool
 {
     object
         .added
-        .items
+        .as_slice()
         .iter()
         .any(|e| !has_object(&object.removed, *e))
 }

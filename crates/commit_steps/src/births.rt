@@ -17,6 +17,7 @@ use object_store::put_primary;
 use owner_steps::hold_all;
 use protocol_data::{Message, Object, ObjectSource, Objects, OwnTask, Progress, WorkerContext};
 use sequence::Seq;
+use small_list::SmallList;
 use std::alloc::{AllocError, Global};
 use task_spec::Birth;
 use values::RunValue;
@@ -47,7 +48,7 @@ fn add_own(here: &mut WorkerContext, object: Object) -> Result<(), AllocError>
 fn put_object(
     alloc: Global,
     bearer: AttemptId,
-    ids: Seq<ObjectId>,
+    ids: SmallList<ObjectId>,
     node: NodeId,
 ) -> Result<Object, AllocError>
     ensures { IfOk result (λ x. x ≡ put_object bearer ids node) }
@@ -63,8 +64,8 @@ fn put_object(
         all_locations,
         kept: None,
         ids,
-        added: Seq::new(alloc),
-        removed: Seq::new(alloc),
+        added: SmallList::new(alloc),
+        removed: SmallList::new(alloc),
         dead_holder: None,
         fault: None,
         is_released: false,
@@ -81,7 +82,7 @@ fn task_object(
 ) -> Result<Object, AllocError>
     ensures { IfOk result (λ x. x ≡ new_object source bearer ids.now) }
 {
-    let ids = ids.copy(alloc)?;
+    let ids = SmallList::of(alloc, ids.as_slice())?;
     Ok(Object {
         source,
         bearer,
@@ -90,8 +91,8 @@ fn task_object(
         all_locations: Seq::new(alloc),
         kept: None,
         ids,
-        added: Seq::new(alloc),
-        removed: Seq::new(alloc),
+        added: SmallList::new(alloc),
+        removed: SmallList::new(alloc),
         dead_holder: None,
         fault: None,
         is_released: false,
@@ -112,7 +113,7 @@ fn add_first(
     let spec = spec.copy(alloc)?;
     let task = OwnTask {
         spec,
-        begun: Seq::new(alloc),
+        begun: SmallList::new(alloc),
         number: 0,
         progress: Progress::AtRest,
     };
@@ -161,7 +162,7 @@ fn bear_put(
 {
     let content = content_put(alloc, value)?;
     let node = here.worker.node;
-    let kept = ids.copy(alloc)?;
+    let kept = SmallList::of(alloc, ids.as_slice())?;
     let made = put_object(alloc, bearer, kept, node)?;
     add_own(here, made)?;
     put_primary(&mut here.there.node.store, object, 0, content)?;
@@ -192,7 +193,7 @@ fn request_first(
     let spec = spec.copy(alloc)?;
     let task = OwnTask {
         spec,
-        begun: Seq::new(alloc),
+        begun: SmallList::new(alloc),
         number: 0,
         progress: Progress::AskedAt(0, node),
     };

@@ -142,7 +142,7 @@ pub fn write_holders(
     ensures { IsIndexOf index.now log.now → OnOk result
         (string_bytes text.new ≡ string_bytes text.old ++ holders_text log.now object row.now.removed row.now.added) }
 {
-    for holder in &row.added.items {
+    for holder in row.added.as_slice() {
         write_holder_unless(
             alloc,
             text,

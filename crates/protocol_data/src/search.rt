@@ -12,7 +12,7 @@ ghost use Rattle.indexmap.specs.IndexMap.{index_map_len, values};
 use crate::tables::{Object, ObjectSource, Progress};
 use ids::{AttemptId, ObjectId};
 use indexmap::IndexMap;
-use sequence::Seq;
+use small_list::SmallList;
 
 /// Which of an owner's objects may have come to be releasable: those from `seen` on, which were never looked at, and those from `changed_from` to
 /// before `changed_to`, which were changed since. Any other one isn't released while the bearer goes on, which bore none before `own_from`.
@@ -31,10 +31,10 @@ pub struct Search {
 }
 
 /// Whether the id is one of these.
-fn has_id(ids: &Seq<ObjectId>, id: ObjectId) -> bool
+fn has_id(ids: &SmallList<ObjectId>, id: ObjectId) -> bool
     ensures { result ≡ list_any (λ p. same_id p id) ids.now }
 {
-    ids.items.iter().any(|o| o.is(id))
+    ids.as_slice().iter().any(|o| o.is(id))
 }
 
 /// Whether anyone holds the object: one of the holders that were added was not removed.
@@ -43,7 +43,7 @@ fn has_holder(object: &Object) -> bool
 {
     object
         .added
-        .items
+        .as_slice()
         .iter()
         .any(|e| !has_id(&object.removed, *e))
 }

@@ -18,7 +18,7 @@ pub fn holders_of(
     ensures { IfOk result (λ holders. holders ≡ holders_of worker object.now) }
 {
     let mut holders = Seq::new(alloc);
-    for holder in &object.added.items {
+    for holder in object.added.as_slice() {
         if holder.owned_by(worker) && !has_object(&object.removed, *holder) {
             holders.push(*holder)?;
         }

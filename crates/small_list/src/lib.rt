@@ -1,0 +1,130 @@
+//! A list that contracts see as a list, and that needs no memory of its own while it has one item at most.
+#![tactic(auto)]
+
+ghost use Rattle.std.specs.Prelude.{◌≡◌, ◌∷◌, ◌++◌, [], IfOk, OnOk, OnErr, take};
+ghost use Rattle.std.specs.Mem.{FitsInMemory};
+
+use std::alloc::{AllocError, Global};
+use std::marker::Model;
+use std::slice;
+
+/// The one item, or the items in a piece of memory of their own.
+#[derive(Drop, Debug)]
+enum Items<T> {
+    One(T, Global),
+    Many(Vec<T>),
+}
+
+/// A list that contracts see as the list of its items. Of most lists in a worker's tables the items are one or none: that one stands in the list itself.
+#[derive(Drop, Debug)]
+pub struct SmallList<T> {
+    items: Items<T>,
+}
+
+impl<T> Model for SmallList<T> {
+    ghost use Rattle.std.specs.Prelude.{List};
+    ghost use Rattle.small_list.specs.Items.{items_of};
+
+    ghost Value = { List T };
+
+    ghost view = { λ l. items_of l.items };
+}
+
+impl<T> SmallList<T> {
+    /// The empty list.
+    pub fn new(alloc: Global) -> Self
+        ensures { result ≡ [] }
+    {
+        SmallList {
+            items: Items::Many(Vec::new(alloc)),
+        }
+    }
+
+    /// The items, in order.
+    pub fn as_slice(&self) -> &[T]
+        requires { FitsInMemory T.row }
+        ensures { result.now ≡ self.now }
+    {
+        match &self.items {
+            Items::One(item, _) => slice::from_ref(item),
+            Items::Many(items) => items.as_slice(),
+        }
+    }
+}
+
+impl<T: Copy + Drop> SmallList<T> {
+    /// The list of these items. An error is want of memory.
+    pub fn of(alloc: Global, items: &[T]) -> Result<Self, AllocError>
+        ensures { IfOk result (λ l. l ≡ items.now) }
+    {
+        if items.len() == 1 {
+            return Ok(SmallList {
+                items: Items::One(items[0], alloc),
+            });
+        }
+        let mut copies = Vec::new(alloc);
+        copies.reserve(items.len())?;
+        for item in items {
+            copies.push(*item)?;
+        }
+        Ok(SmallList {
+            items: Items::Many(copies),
+        })
+    }
+
+    /// Adds an item at the end. On an error, which is want of memory, the list is as it was.
+    pub fn push(&mut self, item: T) -> Result<(), AllocError>
+        ensures ok { OnOk result (self.new ≡ self.old ++ item ∷ []) }
+        ensures err { OnErr result (self.new ≡ self.old) }
+    {
+        match &mut self.items {
+            Items::One(first, alloc) => {
+                let first = *first;
+                let alloc = *alloc;
+                let mut items = Vec::new(alloc);
+                items.reserve(2)?;
+                items.push_reserved(first);
+                items.push_reserved(item);
+                self.items = Items::Many(items);
+                Ok(())
+            }
+            Items::Many(items) => {
+                if items.capacity() == 0 {
+                    let alloc = *items.allocator();
+                    self.items = Items::One(item, alloc);
+                    return Ok(());
+                }
+                items.reserve(1)?;
+                items.push_reserved(item);
+                Ok(())
+            }
+        }
+    }
+
+    /// Leaves the first items, so many or as many as there are.
+    pub fn truncate(&mut self, count: usize)
+        ensures { self.new ≡ take count self.old }
+    {
+        match &mut self.items {
+            Items::One(_, alloc) => {
+                if count == 0 {
+                    let alloc = *alloc;
+                    self.items = Items::Many(Vec::new(alloc));
+                }
+            }
+            Items::Many(items) => items.truncate(count),
+        }
+    }
+
+    /// An equal list. An error is want of memory.
+    pub fn copy(&self, alloc: Global) -> Result<Self, AllocError>
+        ensures { IfOk result (λ l. l ≡ self.now) }
+    {
+        match &self.items {
+            Items::One(item, _) => Ok(SmallList {
+                items: Items::One(*item, alloc),
+            }),
+            Items::Many(items) => SmallList::of(alloc, items.as_slice()),
+        }
+    }
+}

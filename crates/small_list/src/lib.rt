@@ -40,6 +40,24 @@ impl<T> SmallList<T> {
         }
     }
 
+    /// The list of that item.
+    pub fn one(alloc: Global, item: T) -> Self
+        ensures { result ≡ item ∷ [] }
+    {
+        SmallList {
+            items: Items::One(item, alloc),
+        }
+    }
+
+    /// The list of these items, which stay where they are.
+    pub fn from_vec(items: Vec<T>) -> Self
+        ensures { result ≡ items.items }
+    {
+        SmallList {
+            items: Items::Many(items),
+        }
+    }
+
     /// The items, in order.
     pub fn as_slice(&self) -> &[T]
         requires { FitsInMemory T.row }

@@ -14,6 +14,7 @@ use crate::course::Course;
 use crate::registers::State;
 use crate::value::{Outcome, Value};
 use ids::ObjectId;
+use small_list::SmallList;
 use std::alloc::{AllocError, Global};
 
 /// Where an attempt waits for an answer, which may be kept: the machine's state behind the get, the id of the attempt's next birth, the
@@ -59,14 +60,12 @@ impl Frame {
             limit,
             steps,
         } = self;
-        let mut answers = Vec::with_capacity(alloc, 1)?;
-        answers.push(answer)?;
         let mut course = Course {
             state,
             births: Vec::new(alloc),
             prints: Vec::new(alloc),
             next,
-            answers,
+            answers: SmallList::one(alloc, answer),
             used: 0,
             steps,
         };

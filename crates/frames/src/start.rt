@@ -19,6 +19,7 @@ use crate::registers::State;
 use crate::value::{Outcome, Value};
 use frame_code::Code;
 use ids::ObjectId;
+use small_list::SmallList;
 use std::alloc::{AllocError, Global};
 
 /// So many registers have room behind a task's first ones, that few tasks need more memory for theirs.
@@ -92,7 +93,7 @@ impl Course {
             births: Vec::new(alloc),
             prints: Vec::new(alloc),
             next: base,
-            answers,
+            answers: SmallList::from_vec(answers),
             used: 0,
             steps: 0,
         })

@@ -10,7 +10,7 @@ use Rattle.frames.proofs.frame.Frame.go_on.Goals as goal
 pub returns-clause-halts : goal.returns-clause-halts
 returns-clause-halts c =
     let script = script_of c.args.script.now in
-    let answers = c.pass-halt.ensures.answers ∙ ap (map outcome_of) (c.in_ok-push.ensures.items ∙ ap (λ xs. xs ++ c.args.answer ∷ []) c.in_ok-answers.ensures.items) in
+    let answers = c.pass-halt.ensures.answers ∙ ap (map outcome_of) c.one.ensures in
     if_ok _ _ c.stop.result
     (λ a halts spec base past waiting.
     subst (λ os. HaltsBehind script spec base past os a) answers
@@ -23,7 +23,7 @@ returns-clause-halts c =
 pub returns-clause-keeps : goal.returns-clause-keeps
 returns-clause-keeps c =
     let script = script_of c.args.script.now in
-    let answers = c.pass-halt.ensures.answers ∙ ap (map outcome_of) (c.in_ok-push.ensures.items ∙ ap (λ xs. xs ++ c.args.answer ∷ []) c.in_ok-answers.ensures.items) in
+    let answers = c.pass-halt.ensures.answers ∙ ap (map outcome_of) c.one.ensures in
     if_ok _ _ c.stop.result
     (λ a keeps spec base past waiting.
     subst (λ os. KeepsFrame script spec base past os a) answers
@@ -36,7 +36,7 @@ returns-clause-keeps c =
 pub returns-clause-counts : goal.returns-clause-counts
 returns-clause-counts c =
     let script = script_of c.args.script.now in
-    let answers = c.pass-halt.ensures.answers ∙ ap (map outcome_of) (c.in_ok-push.ensures.items ∙ ap (λ xs. xs ++ c.args.answer ∷ []) c.in_ok-answers.ensures.items) in
+    let answers = c.pass-halt.ensures.answers ∙ ap (map outcome_of) c.one.ensures in
     if_ok _ _ c.stop.result
     (λ a counts spec base past waiting.
     subst (λ os. CountsSteps script spec base (past.answers ++ os) a) answers

@@ -1,3 +1,4 @@
+pub mod Digits
 pub mod Ends
 mod Marks
 mod Said

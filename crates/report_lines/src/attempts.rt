@@ -1,6 +1,7 @@
 // The report's section of attempts: of each its worker, and whether it was accepted, ended, faulted or open.
 
-ghost use Rattle.std.specs.Prelude.{◌≡◌, ◌++◌, ◌||◌, List, [], OnOk, IfOk, string_bytes};
+ghost use Rattle.std.specs.Prelude.{◌≡◌, ◌++◌, ◌||◌, List, [], OnOk, IfOk, codes, string_bytes};
+ghost use Rattle.std.specs.Fmt.{decimal};
 ghost use Rattle.ids.specs.Attempts.{Attempt};
 ghost use Rattle.event_log.specs.Entries as logged;
 ghost use Rattle.event_log.specs.Words.{accepted_in, ended_in, faulted_in};
@@ -84,12 +85,25 @@ impl AttemptStates {
 fn write_id(text: &mut String, attempt: AttemptId) -> Result<(), AllocError>
     ensures { OnOk result (string_bytes text.new ≡ string_bytes text.old ++ attempt_text attempt) }
 {
-    text.push_str("a")?;
+    text.push('a')?;
     write_number(text, u64::from(attempt.object.owner.0))?;
-    text.push_str(".")?;
+    text.push('.')?;
     write_number(text, attempt.object.serial)?;
-    text.push_str("#")?;
+    text.push('#')?;
     write_number(text, u64::from(attempt.number))
+}
+
+/// Writes ` w2 accepted` and a line feed, with that word.
+fn write_end(text: &mut String, worker: WorkerId, state: &str) -> Result<(), AllocError>
+    ensures { OnOk result (string_bytes text.new
+        ≡ string_bytes text.old ++ (codes " w" ++ (decimal worker ++ (codes " " ++ (state.now ++ codes "\n"))))) }
+{
+    text.push(' ')?;
+    text.push('w')?;
+    write_number(text, u64::from(worker.0))?;
+    text.push(' ')?;
+    text.push_str(state)?;
+    text.push('\n')
 }
 
 /// Writes `attempt a1.1#0 w2 accepted`, with that word for the attempt's state. Its pieces are written one by one: a format costs twice as much.
@@ -104,11 +118,7 @@ fn write_line(
 {
     text.push_str("attempt ")?;
     write_id(text, attempt)?;
-    text.push_str(" w")?;
-    write_number(text, u64::from(worker.0))?;
-    text.push_str(" ")?;
-    text.push_str(state)?;
-    text.push_str("\n")
+    write_end(text, worker, state)
 }
 
 /// Writes a line where the entry begins another attempt than main's.

@@ -1,28 +1,18 @@
-// Numbers in decimal: those of one digit, of which a report has most, are written at once.
+// Numbers in decimal, digit by digit: a format costs several times as much.
 
 ghost use Rattle.std.specs.Prelude.{◌≡◌, ◌<◌, ◌++◌, OnOk, string_bytes};
 ghost use Rattle.std.specs.Fmt.{decimal};
 
 use std::alloc::AllocError;
 
-/// The digit of a number below 10.
-fn digit(number: u64) -> &'static str
+/// Writes the digit of a number below 10.
+#[inline(always)]
+#[tactic(auto, using(std::proofs::lemmas::Fmt::decimal_digit))]
+fn write_digit(text: &mut String, number: u64) -> Result<(), AllocError>
     requires { number < 10 }
-    ensures { result.now ≡ decimal number }
+    ensures { OnOk result (string_bytes text.new ≡ string_bytes text.old ++ decimal number) }
 {
-    match number {
-        0 => "0",
-        1 => "1",
-        2 => "2",
-        3 => "3",
-        4 => "4",
-        5 => "5",
-        6 => "6",
-        7 => "7",
-        8 => "8",
-        9 => "9",
-        _ => unreachable!(),
-    }
+    text.push(char::from(b'0' + number as u8))
 }
 
 /// Writes a number of any length.
@@ -30,16 +20,20 @@ fn digit(number: u64) -> &'static str
 fn write_long(text: &mut String, number: u64) -> Result<(), AllocError>
     ensures { OnOk result (string_bytes text.new ≡ string_bytes text.old ++ decimal number) }
 {
-    write!(text, "{number}")
+    if number < 10 {
+        return write_digit(text, number);
+    }
+    write_long(text, number / 10)?;
+    write_digit(text, number % 10)
 }
 
-/// Writes a number in decimal.
+/// Writes a number in decimal. Of one digit, as most in a report are, it is written where this is called.
 #[inline(always)]
 pub fn write_number(text: &mut String, number: u64) -> Result<(), AllocError>
     ensures { OnOk result (string_bytes text.new ≡ string_bytes text.old ++ decimal number) }
 {
     if number < 10 {
-        return text.push_str(digit(number));
+        return write_digit(text, number);
     }
     write_long(text, number)
 }

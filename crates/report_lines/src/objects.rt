@@ -27,9 +27,10 @@ pub fn write_release(text: &mut String, entry: &Entry) -> Result<(), AllocError>
     let Entry::Released(object) = entry else {
         return Ok(());
     };
-    text.push_str("released o")?;
+    text.push_str("released ")?;
+    text.push('o')?;
     write_number(text, u64::from(object.owner.0))?;
-    text.push_str(".")?;
+    text.push('.')?;
     write_number(text, object.serial)?;
-    text.push_str("\n")
+    text.push('\n')
 }

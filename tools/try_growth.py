@@ -76,9 +76,9 @@ def copies(count):
 SHAPES = [
     ("rounds", rounds, 9, 12, ["where the search for the next message begins", "the marks of a node's asks"]),
     ("chains", chains, 7, 12, ["which objects may have come to be releasable"]),
-    ("copies", copies, 400, 15, ["the shelves of the primary copies at a node"]),
-    ("gets", gets, 900, 13, ["that a job shares its attempt's births", "that it shares its answers", "the bounds of the attempts that a worker began"]),
-    ("prints", printing, 900, 14, ["that a job shares its attempt's prints"]),
+    ("copies", copies, 400, 12, ["the shelves of the primary copies at a node"]),
+    ("gets", gets, 900, 11, ["that a job shares its attempt's births, and the list of the full chunks of these", "that it shares its answers", "the bounds of the attempts that a worker began"]),
+    ("prints", printing, 900, 11, ["that a job shares its attempt's prints"]),
 ]
 
 

@@ -12,7 +12,7 @@ returns-clause-whole c =
     let g = c.get.result.now in
     let made = c.in-Some-with_made.made in
     let there = item_there old.jobs c.in-Some.place c.args.job g c.in-Some.ensures.found.0 c.get.ensures in
-    let sum : made ≡ old.made + objects_made c.args.outcomes.births = c.in-Some-with_made.ensures.sum in
+    let sum : made ≡ old.made + objects_made c.args.outcomes.births = c.in-Some-with_made.ensures.sum ∙ ap (λ o. old.made + objects_made o.births) c.deref.ensures in
     let entries = c.let_act.new.here.there.out.entries in
     c.note_commit.ensures
     ∙ committed_noted old c.let_act.new.whole c.args.job made c.args.outcomes g entries there sum c.in_ok-let_act.ensures.whole
@@ -24,7 +24,7 @@ returns-clause-entries c =
     let g = c.get.result.now in
     let made = c.in-Some-with_made.made in
     let there = item_there old.jobs c.in-Some.place c.args.job g c.in-Some.ensures.found.0 c.get.ensures in
-    let sum : made ≡ old.made + objects_made c.args.outcomes.births = c.in-Some-with_made.ensures.sum in
+    let sum : made ≡ old.made + objects_made c.args.outcomes.births = c.in-Some-with_made.ensures.sum ∙ ap (λ o. old.made + objects_made o.births) c.deref.ensures in
     sym (ap (λ b. if_taken b c.let_act.new.here.there.out.entries) c.if-not-branch.false) ∙ c.in_ok-let_act.ensures.entries
     ∙ sym (committed_entries old c.args.job made c.args.outcomes g there sum)
 
@@ -35,7 +35,7 @@ returns-then-not-branch-clause-whole c =
     let g = c.get.result.now in
     let made = c.in-Some-with_made.made in
     let there = item_there old.jobs c.in-Some.place c.args.job g c.in-Some.ensures.found.0 c.get.ensures in
-    let sum : made ≡ old.made + objects_made c.args.outcomes.births = c.in-Some-with_made.ensures.sum in
+    let sum : made ≡ old.made + objects_made c.args.outcomes.births = c.in-Some-with_made.ensures.sum ∙ ap (λ o. old.made + objects_made o.births) c.deref.ensures in
     committed_not_noted old c.let_act.new.whole c.args.job made c.args.outcomes g there sum c.in_ok-let_act.ensures.whole
     (sym c.in_ok-let_act.ensures.entries ∙ ap (λ b. if_taken b c.let_act.new.here.there.out.entries) c.if-not-branch.true)
 
@@ -45,6 +45,6 @@ returns-then-not-branch-clause-entries c =
     let g = c.get.result.now in
     let made = c.in-Some-with_made.made in
     let there = item_there old.jobs c.in-Some.place c.args.job g c.in-Some.ensures.found.0 c.get.ensures in
-    let sum : made ≡ old.made + objects_made c.args.outcomes.births = c.in-Some-with_made.ensures.sum in
+    let sum : made ≡ old.made + objects_made c.args.outcomes.births = c.in-Some-with_made.ensures.sum ∙ ap (λ o. old.made + objects_made o.births) c.deref.ensures in
     sym (ap (λ b. if_taken b c.let_act.new.here.there.out.entries) c.if-not-branch.true) ∙ c.in_ok-let_act.ensures.entries
     ∙ sym (committed_entries old c.args.job made c.args.outcomes g there sum)

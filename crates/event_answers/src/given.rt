@@ -37,8 +37,8 @@ fn job_of(alloc: Global, number: u64, run: &Execution) -> Result<GivenJob, Alloc
     ensures { IfOk result (λ job. job ≡ job_of number run.now) }
 {
     let spec = run.spec.copy(alloc)?;
-    let births = run.births.copy(alloc)?;
-    let prints = run.prints.copy(alloc)?;
+    let births = run.births.copy()?;
+    let prints = run.prints.copy()?;
     let answers = run.answers.copy(alloc)?;
     let inner = Box::new(
         alloc,

@@ -31,11 +31,11 @@ impl Model for Births {
 
 impl Births {
     /// None yet.
-    pub fn new(alloc: Global) -> Births
+    pub fn new() -> Births
         ensures { result ≡ [] }
     {
         Births {
-            inner: Trail::new(alloc),
+            inner: Trail::new(),
         }
     }
 
@@ -55,10 +55,10 @@ impl Births {
     }
 
     /// Equal births, the same in memory.
-    pub fn copy(&self, alloc: Global) -> Result<Births, AllocError>
+    pub fn copy(&self) -> Result<Births, AllocError>
         ensures { IfOk result (λ b. b ≡ self.now) }
     {
-        let inner = self.inner.copy(alloc)?;
+        let inner = self.inner.copy()?;
         Ok(Births { inner })
     }
 }

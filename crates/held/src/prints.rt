@@ -31,11 +31,11 @@ impl Model for Prints {
 
 impl Prints {
     /// None yet.
-    pub fn new(alloc: Global) -> Prints
+    pub fn new() -> Prints
         ensures { result ≡ [] }
     {
         Prints {
-            inner: Trail::new(alloc),
+            inner: Trail::new(),
         }
     }
 
@@ -55,10 +55,10 @@ impl Prints {
     }
 
     /// Equal values, the same in memory.
-    pub fn copy(&self, alloc: Global) -> Result<Prints, AllocError>
+    pub fn copy(&self) -> Result<Prints, AllocError>
         ensures { IfOk result (λ p. p ≡ self.now) }
     {
-        let inner = self.inner.copy(alloc)?;
+        let inner = self.inner.copy()?;
         Ok(Prints { inner })
     }
 }

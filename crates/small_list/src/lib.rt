@@ -1,11 +1,12 @@
 //! A list that contracts see as a list, and that needs no memory of its own while it has one item at most.
 #![tactic(auto)]
 
-ghost use Rattle.std.specs.Prelude.{◌≡◌, ◌∷◌, ◌++◌, [], IfOk, OnOk, OnErr, take};
+ghost use Rattle.std.specs.Prelude.{◌≡◌, ◌<◌, ◌∷◌, ◌++◌, [], IfOk, OnOk, OnErr, Some, length, slice_get, take};
 ghost use Rattle.std.specs.Mem.{FitsInMemory};
 
 use std::alloc::{AllocError, Global};
 use std::marker::Model;
+use std::mem;
 use std::slice;
 
 /// The one item, or the items in a piece of memory of their own.
@@ -58,6 +59,27 @@ impl<T> SmallList<T> {
         }
     }
 
+    /// How many items there are.
+    pub fn len(&self) -> usize
+        ensures { result ≡ length self.now }
+    {
+        match &self.items {
+            Items::One(..) => 1,
+            Items::Many(items) => items.len(),
+        }
+    }
+
+    /// The item at a place, counted from 0.
+    pub fn get(&self, place: usize) -> &T
+        requires { place < length self.now }
+        ensures { slice_get self.now place ≡ Some result.now }
+    {
+        match &self.items {
+            Items::One(item, _) => item,
+            Items::Many(items) => &items[place],
+        }
+    }
+
     /// The items, in order.
     pub fn as_slice(&self) -> &[T]
         requires { FitsInMemory T.row }
@@ -66,6 +88,40 @@ impl<T> SmallList<T> {
         match &self.items {
             Items::One(item, _) => slice::from_ref(item),
             Items::Many(items) => items.as_slice(),
+        }
+    }
+}
+
+impl<T: Drop> SmallList<T> {
+    /// Adds an item at the end. On an error, which is want of memory, the list is as it was, and the item is gone.
+    pub fn push(&mut self, item: T) -> Result<(), AllocError>
+        ensures ok { OnOk result (self.new ≡ self.old ++ item ∷ []) }
+        ensures err { OnErr result (self.new ≡ self.old) }
+    {
+        match &mut self.items {
+            Items::One(_, alloc) => {
+                let alloc = *alloc;
+                let mut items = Vec::new(alloc);
+                items.reserve(2)?;
+                let first = mem::replace(&mut self.items, Items::Many(Vec::new(alloc)));
+                match first {
+                    Items::One(first, _) => items.push_reserved(first),
+                    Items::Many(_) => unreachable!(),
+                }
+                items.push_reserved(item);
+                self.items = Items::Many(items);
+                Ok(())
+            }
+            Items::Many(items) => {
+                if items.capacity() == 0 {
+                    let alloc = *items.allocator();
+                    self.items = Items::One(item, alloc);
+                    return Ok(());
+                }
+                items.reserve(1)?;
+                items.push_reserved(item);
+                Ok(())
+            }
         }
     }
 }
@@ -88,35 +144,6 @@ impl<T: Copy + Drop> SmallList<T> {
         Ok(SmallList {
             items: Items::Many(copies),
         })
-    }
-
-    /// Adds an item at the end. On an error, which is want of memory, the list is as it was.
-    pub fn push(&mut self, item: T) -> Result<(), AllocError>
-        ensures ok { OnOk result (self.new ≡ self.old ++ item ∷ []) }
-        ensures err { OnErr result (self.new ≡ self.old) }
-    {
-        match &mut self.items {
-            Items::One(first, alloc) => {
-                let first = *first;
-                let alloc = *alloc;
-                let mut items = Vec::new(alloc);
-                items.reserve(2)?;
-                items.push_reserved(first);
-                items.push_reserved(item);
-                self.items = Items::Many(items);
-                Ok(())
-            }
-            Items::Many(items) => {
-                if items.capacity() == 0 {
-                    let alloc = *items.allocator();
-                    self.items = Items::One(item, alloc);
-                    return Ok(());
-                }
-                items.reserve(1)?;
-                items.push_reserved(item);
-                Ok(())
-            }
-        }
     }
 
     /// Leaves the first items, so many or as many as there are.

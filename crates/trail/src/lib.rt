@@ -187,10 +187,9 @@ fn add<T: Drop>(
 
 impl<T> Trail<T> {
     /// The empty list.
-    pub fn new(alloc: Global) -> Trail<T>
+    pub fn new() -> Trail<T>
         ensures { result ≡ [] }
     {
-        let _ = alloc;
         Trail {
             full: None,
             last: None,
@@ -229,7 +228,7 @@ impl<T: Drop> Trail<T> {
         ensures ok { OnOk result (self.new ≡ self.old ++ item ∷ []) }
         ensures err { OnErr result (self.new ≡ []) }
     {
-        let list = mem::replace(self, Trail::new(alloc));
+        let list = mem::replace(self, Trail::new());
         let item = Arc::new(alloc, item)?;
         *self = list.with(alloc, item)?;
         Ok(())
@@ -240,16 +239,15 @@ impl<T: Drop> Trail<T> {
         ensures ok { OnOk result (self.new ≡ self.old ++ arc_value item ∷ []) }
         ensures err { OnErr result (self.new ≡ []) }
     {
-        let list = mem::replace(self, Trail::new(alloc));
+        let list = mem::replace(self, Trail::new());
         *self = list.with(alloc, item)?;
         Ok(())
     }
 
     /// An equal list, which shares all items. An error is want of memory.
-    pub fn copy(&self, alloc: Global) -> Result<Trail<T>, AllocError>
+    pub fn copy(&self) -> Result<Trail<T>, AllocError>
         ensures { IfOk result (λ other. other ≡ self.now) }
     {
-        let _ = alloc;
         let full = share_full(&self.full)?;
         let last = share_last(&self.last)?;
         Ok(Trail {

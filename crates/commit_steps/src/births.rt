@@ -69,7 +69,7 @@ fn put_object(
         dead_holder: None,
         fault: None,
         is_released: false,
-        askers: Seq::new(alloc),
+        askers: SmallList::new(alloc),
     })
 }
 
@@ -96,7 +96,7 @@ fn task_object(
         dead_holder: None,
         fault: None,
         is_released: false,
-        askers: Seq::new(alloc),
+        askers: SmallList::new(alloc),
     })
 }
 

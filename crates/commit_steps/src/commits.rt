@@ -16,6 +16,7 @@ use object_store::put_end;
 use owner_steps::{id_behind, need_own};
 use protocol_data::{Message, Outcomes, Phase, Stopped, WorkerContext, copy_contents};
 use sequence::Seq;
+use small_list::SmallList;
 use std::alloc::{AllocError, Global};
 use std::mem;
 use values::{Content, Fault, FaultKind, RunValue};
@@ -125,12 +126,12 @@ fn are_plain(contents: &[SharedContent]) -> bool
 /// The attempt ends with plain contents, of which nothing is kept but by the attempt: it takes the list as it is.
 #[inline(always)]
 #[tactic(auto, using(crate::proofs::Contents::plain_kept))]
-fn end_plainly(alloc: Global, here: &mut WorkerContext, contents: &mut Seq<SharedContent>)
+fn end_plainly(alloc: Global, here: &mut WorkerContext, contents: &mut SmallList<SharedContent>)
     requires { ArePlain contents.old }
     ensures { (run : Execution) → here.old.worker.run ≡ Some run →
         here.new ≡ keeps_contents (with_phase here.old run (HasEnded contents.old)) run.attempt.object run.attempt.number contents.old }
 {
-    let kept = mem::replace(contents, Seq::new(alloc));
+    let kept = mem::replace(contents, SmallList::new(alloc));
     set_phase(here, Phase::HasEnded(kept));
 }
 
@@ -139,7 +140,7 @@ fn end_keeping(
     alloc: Global,
     here: &mut WorkerContext,
     attempt: AttemptId,
-    contents: &Seq<SharedContent>,
+    contents: &SmallList<SharedContent>,
 ) -> Result<(), AllocError>
     ensures { (run : Execution) → here.old.worker.run ≡ Some run → run.attempt ≡ attempt → OnOk result
         (here.new ≡ keeps_contents (with_phase here.old run (HasEnded contents.now)) run.attempt.object run.attempt.number contents.now) }
@@ -159,7 +160,7 @@ fn end_keeping(
 fn set_ended(
     alloc: Global,
     here: &mut WorkerContext,
-    contents: &mut Seq<SharedContent>,
+    contents: &mut SmallList<SharedContent>,
 ) -> Result<(), AllocError>
     ensures { (run : Execution) → here.old.worker.run ≡ Some run → OnOk result
         (here.new ≡ keeps_contents (with_phase here.old run (HasEnded contents.old)) run.attempt.object run.attempt.number contents.old) }
@@ -179,7 +180,7 @@ fn set_ended(
 fn end(
     alloc: Global,
     here: &mut WorkerContext,
-    contents: &mut Seq<SharedContent>,
+    contents: &mut SmallList<SharedContent>,
 ) -> Result<(), AllocError>
     ensures { (run : Execution) → here.old.worker.run ≡ Some run → OnOk result (here.new ≡ ends here.old run contents.old) }
 {

@@ -7,8 +7,7 @@ ghost use Rattle.protocol.specs.Notices.{drops_holds, drops_holds_by, drops_stop
 ghost use Rattle.protocol_data.specs.declared.tables.Execution.{Execution};
 
 use ids::WorkerId;
-use protocol_data::{Execution, Holding, Phase, WorkerContext};
-use sequence::Seq;
+use protocol_data::{Execution, Holding, Phase, SmallList, WorkerContext};
 use std::alloc::{AllocError, Global};
 use values::{Fault, FaultKind};
 use worker_steps::{fault, leave_if_free, note_heard};
@@ -46,13 +45,13 @@ pub fn lose_owner(
 /// The Holds that are not of objects of the dead.
 fn holds_of_others(
     alloc: Global,
-    holds: &Seq<Holding>,
+    holds: &SmallList<Holding>,
     worker: WorkerId,
-) -> Result<Seq<Holding>, AllocError>
+) -> Result<SmallList<Holding>, AllocError>
     ensures { IfOk result (λ others. others ≡ filter (λ k. not (k.object.owner == worker)) holds.now) }
 {
-    let mut others = Seq::new(alloc);
-    for hold in &holds.items {
+    let mut others = SmallList::new(alloc);
+    for hold in holds.as_slice() {
         if !hold.object.owned_by(worker) {
             others.push(*hold)?;
         }

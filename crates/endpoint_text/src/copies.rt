@@ -13,12 +13,11 @@ ghost use Rattle.endpoint_text.specs.Nodes.{lost_text, seen_of, with_all, with_i
 
 use crate::lists::{is_one_of, write_ids};
 use crate::sites::{Site, is_on};
-use held::SharedContent;
+use held::{SharedContent, SmallList};
 use ids::{AttemptId, NodeId, ObjectId};
 use log_entries::{Entry, Event};
 use log_words::{BirthIndex, Contents, is_refusal_at};
 use main_text::write_node;
-use sequence::Seq;
 use std::alloc::{AllocError, Global};
 use task_spec::Birth;
 use why_text::objects_of;
@@ -120,7 +119,7 @@ fn with_all(
 
 /// Whether the content of the object is large, of those with which the attempt ended.
 #[tactic(auto, unfolding(crate::specs::Nodes::is_large_result))]
-fn is_large_result(attempt: AttemptId, results: &Seq<SharedContent>, object: ObjectId) -> bool
+fn is_large_result(attempt: AttemptId, results: &SmallList<SharedContent>, object: ObjectId) -> bool
     ensures { result ≡ is_large_result attempt results.now object }
 {
     let place = object.serial.saturating_sub(attempt.object.serial) as usize;
@@ -133,7 +132,7 @@ fn is_large_result(attempt: AttemptId, results: &Seq<SharedContent>, object: Obj
 fn add_large(
     large: &mut Vec<ObjectId>,
     attempt: AttemptId,
-    results: &Seq<SharedContent>,
+    results: &SmallList<SharedContent>,
     object: ObjectId,
 ) -> Result<(), AllocError>
     ensures { OnOk result (large.new.items ≡ large.old.items ++ filter (is_large_result attempt results.now) (object ∷ [])) }
@@ -147,7 +146,7 @@ fn add_large(
 fn large_among(
     alloc: Global,
     attempt: AttemptId,
-    results: &Seq<SharedContent>,
+    results: &SmallList<SharedContent>,
     objects: &[ObjectId],
 ) -> Result<Vec<ObjectId>, AllocError>
     ensures { IfOk result (λ large. large.items ≡ filter (is_large_result attempt results.now) objects.now) }
@@ -165,7 +164,7 @@ fn large_results(
     index: &BirthIndex,
     log: &[Entry],
     attempt: AttemptId,
-    results: &Seq<SharedContent>,
+    results: &SmallList<SharedContent>,
 ) -> Result<Vec<ObjectId>, AllocError>
     ensures { IsIndexOf index.now log.now → IfOk result
         (λ large. large.items ≡ large_results (births log.now) attempt results.now) }
@@ -180,7 +179,7 @@ fn ended_there(
     log: &[Entry],
     site: &Site,
     attempt: AttemptId,
-    results: &Seq<SharedContent>,
+    results: &SmallList<SharedContent>,
 ) -> Result<Vec<ObjectId>, AllocError>
     ensures { IsIndexOf index.now log.now → IfOk result
         (λ there. there.items ≡ ended_there (births log.now) (seen_of site.now) attempt results.now) }
@@ -198,7 +197,7 @@ fn with_ended(
     site: &Site,
     objects: Vec<ObjectId>,
     attempt: AttemptId,
-    results: &Seq<SharedContent>,
+    results: &SmallList<SharedContent>,
 ) -> Result<Vec<ObjectId>, AllocError>
     ensures { IsIndexOf index.now log.now → IfOk result
         (λ all. all.items ≡ with_all objects.items (ended_there (births log.now) (seen_of site.now) attempt results.now)) }

@@ -24,7 +24,7 @@ use crate::convert::{
     to_value,
 };
 use frames::{Attempt, Compiled, Frame, Halt, Value, run_task};
-use held::{Printed, SharedBirth, SharedContent};
+use held::{Printed, SharedBirth, SharedContent, SmallList};
 use ids::ObjectId;
 use sequence::Seq;
 use std::alloc::{AllocError, AllocFailed, Global};
@@ -38,7 +38,7 @@ pub enum PieceStop {
     /// At a get of this object, for which there is no answer left.
     Needs(ObjectId),
     /// At the end of the task, whose results have these contents.
-    Ends(Seq<SharedContent>),
+    Ends(SmallList<SharedContent>),
 }
 
 /// What a task does up to its next get: what it bears, in the order of the ids that the births take, what it prints,
@@ -115,14 +115,13 @@ fn of_values(
     alloc: Global,
     values: &[Value],
     count: usize,
-) -> Result<Seq<SharedContent>, ConversionError>
+) -> Result<SmallList<SharedContent>, ConversionError>
     ensures value { IfOk result (λ cs. cs ≡ outcomes count (Returned (map run_value_of values.now))) }
     ensures broken { IfErr result (λ e. e ≡ ConversionError.Broken → HasBroken (outcomes count (Returned (map run_value_of values.now)))) }
     ensures plain { IfErr result (λ e. e ≡ ConversionError.HasOutcome →
         AreTaskOutcomes (outcomes count (Returned (map run_value_of values.now))) → ⊥) }
 {
-    let mut contents = Seq::new(alloc);
-    contents.items.reserve(count)?;
+    let mut contents = SmallList::new(alloc);
     for place in 0..count {
         contents.push(content_at(alloc, values, place)?)?;
     }
@@ -131,11 +130,10 @@ fn of_values(
 
 /// A trap, as the content of each of so many results.
 #[inline(never)]
-fn of_trap(alloc: Global, trap: Trap, count: usize) -> Result<Seq<SharedContent>, AllocError>
+fn of_trap(alloc: Global, trap: Trap, count: usize) -> Result<SmallList<SharedContent>, AllocError>
     ensures { IfOk result (λ cs. cs ≡ outcomes count (Aborted (trap_of trap))) }
 {
-    let mut contents = Seq::new(alloc);
-    contents.items.reserve(count)?;
+    let mut contents = SmallList::new(alloc);
     for _ in 0..count {
         let content = SharedContent::new(alloc, Content::Trap(trap))?;
         contents.push(content)?;
@@ -230,9 +228,8 @@ fn put_piece(alloc: Global, value: &RunValue) -> Result<Box<Piece>, PieceError>
     ensures only { IfErr result (λ e. e ≡ PieceError.NoMemory) }
 {
     let value = value.copy(alloc)?;
-    let mut contents = Seq::new(alloc);
     let content = SharedContent::new(alloc, Content::Value(value))?;
-    contents.push(content)?;
+    let contents = SmallList::one(alloc, content);
     Ok(Box::new(
         alloc,
         Piece {

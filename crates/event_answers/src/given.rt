@@ -39,7 +39,7 @@ fn job_of(alloc: Global, number: u64, run: &Execution) -> Result<GivenJob, Alloc
     let spec = run.spec.copy(alloc)?;
     let births = run.births.copy()?;
     let prints = run.prints.copy()?;
-    let answers = run.answers.copy(alloc)?;
+    let answers = run.answers.copy()?;
     let inner = Box::new(
         alloc,
         JobParts {

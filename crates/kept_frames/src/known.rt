@@ -44,7 +44,7 @@ fn read<S: ScriptName>(alloc: Global, job: &Job<S>) -> Result<Box<Known>, AllocE
 {
     let spec = job.spec().copy(alloc)?;
     let mut answers = Vec::new(alloc);
-    add_answers(alloc, &mut answers, &job.answers().inner)?;
+    add_answers(alloc, &mut answers, job.answers().as_slice())?;
     let known = Box::new(
         alloc,
         Known {
@@ -71,7 +71,7 @@ fn known_at<S: ScriptName>(
     let Some(known) = known else {
         return read(alloc, job);
     };
-    let Some((answer, _)) = job.answers().inner.split_last() else {
+    let Some((answer, _)) = job.answers().as_slice().split_last() else {
         return read(alloc, job);
     };
     let mut known = known;

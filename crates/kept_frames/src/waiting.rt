@@ -60,7 +60,7 @@ fn is_next<S: ScriptName>(known: &Known, job: &Job<S>, is_own: bool) -> bool
     requires { is_own ≡ true → Agrees (data_of known.now) job.now }
     ensures { result ≡ true → IsNext (data_of known.now) job.now }
 {
-    let Some((_, earlier)) = job.answers().inner.split_last() else {
+    let Some((_, earlier)) = job.answers().as_slice().split_last() else {
         return false;
     };
     if !is_shaped(known, job, earlier) {

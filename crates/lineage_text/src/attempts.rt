@@ -10,12 +10,11 @@ ghost use Rattle.lineage_text.specs.Attempts.{attempt_edge, attempt_node, begun_
 ghost use Rattle.lineage_text.specs.Attempts.{named_edges, result_edges, task_objects};
 
 use crate::edges::write_named_edges;
-use held::SharedContent;
+use held::{SharedContent, SmallList};
 use ids::{AttemptId, ObjectId, WorkerId};
 use log_entries::Entry;
 use log_words::{BirthIndex, Contents, objects_at, write_content};
 use report_text::{AttemptStates, kind_name};
-use sequence::Seq;
 use std::alloc::{AllocError, Global};
 use values::{Content, Fault, FaultKind, ids_in};
 
@@ -149,7 +148,7 @@ fn write_result(
     text: &mut String,
     contents: Contents,
     attempt: AttemptId,
-    results: &Seq<SharedContent>,
+    results: &SmallList<SharedContent>,
     object: ObjectId,
 ) -> Result<(), AllocError>
     ensures { OnOk result (string_bytes text.new ≡ string_bytes text.old ++ result_edges contents attempt results.now object) }
@@ -166,7 +165,7 @@ fn write_results(
     text: &mut String,
     contents: Contents,
     attempt: AttemptId,
-    results: &Seq<SharedContent>,
+    results: &SmallList<SharedContent>,
     objects: &[ObjectId],
 ) -> Result<(), AllocError>
     ensures { OnOk result (string_bytes text.new ≡ string_bytes text.old ++ flat_map (result_edges contents attempt results.now) objects.now) }
@@ -185,7 +184,7 @@ pub fn write_ended(
     index: &BirthIndex,
     log: &[Entry],
     attempt: AttemptId,
-    results: &Seq<SharedContent>,
+    results: &SmallList<SharedContent>,
 ) -> Result<(), AllocError>
     ensures { IsIndexOf index.now log.now → OnOk result
         (string_bytes text.new ≡ string_bytes text.old ++ ended_text contents log.now attempt results.now) }

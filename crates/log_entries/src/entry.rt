@@ -1,14 +1,10 @@
 // Entries of the log.
 
-ghost use Rattle.std.specs.Prelude.{◌≡◌, ◌∷◌, [], IfOk};
-
 use crate::event::Event;
 use crate::refusal::Refusal;
 use held::ids::{AttemptId, NodeId, ObjectId, WorkerId};
 use held::values::Fault;
-use held::{Printed, SharedBirth, SharedContent};
-use sequence::Seq;
-use std::alloc::{AllocError, Global};
+use held::{Printed, SharedBirth, SharedContent, SmallList};
 
 /// What a log says, oldest first: each event, and behind it what came of it.
 #[derive(Drop)]
@@ -47,7 +43,7 @@ pub enum Entry {
     /// The attempt ended, with a content for each result.
     Ended {
         attempt: AttemptId,
-        contents: Seq<SharedContent>,
+        contents: SmallList<SharedContent>,
     },
     /// The attempt's owner learned that it ended.
     Accepted(AttemptId),
@@ -64,13 +60,4 @@ pub enum Entry {
     },
     /// The object is no longer needed.
     Released(ObjectId),
-}
-
-/// The contents of an attempt with one result. An error is want of memory.
-pub fn only_content(alloc: Global, content: SharedContent) -> Result<Seq<SharedContent>, AllocError>
-    ensures { IfOk result (λ cs. cs ≡ content ∷ []) }
-{
-    let mut contents = Seq::new(alloc);
-    contents.push(content)?;
-    Ok(contents)
 }

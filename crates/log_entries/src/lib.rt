@@ -5,8 +5,8 @@ mod entry;
 mod event;
 mod refusal;
 
-pub use entry::{Entry, only_content};
+pub use entry::Entry;
 pub use event::Event;
 pub use held::values::Fault;
-pub use held::{Answers, Births, Printed, Prints, SharedBirth, SharedContent};
+pub use held::{Answers, Births, Printed, Prints, SharedBirth, SharedContent, SmallList};
 pub use refusal::Refusal;

@@ -6,10 +6,9 @@ ghost use Rattle.values.specs.Values.{content_of};
 ghost use Rattle.task_spec.specs.Births.{argument_of, birth_of};
 ghost use Rattle.log_text.specs.Mentions.{is_among, is_in_argument, is_in_birth, is_in_content, is_in_contents};
 
-use held::SharedContent;
+use held::{SharedContent, SmallList};
 use ids::ObjectId;
 use log_words::ids_of;
-use sequence::Seq;
 use std::alloc::{AllocError, Global};
 use task_spec::{Argument, Birth};
 use values::{Content, ids_in};
@@ -76,7 +75,7 @@ pub fn is_in_content(alloc: Global, object: ObjectId, content: &Content) -> Resu
 pub fn is_in_contents(
     alloc: Global,
     object: ObjectId,
-    contents: &Seq<SharedContent>,
+    contents: &SmallList<SharedContent>,
 ) -> Result<bool, AllocError>
     ensures { IfOk result (λ b. b ≡ is_in_contents object contents.now) }
 {

@@ -6,9 +6,8 @@ ghost use Rattle.values.specs.Values.{content_of, value_of};
 ghost use Rattle.log_words.specs.Contents.{content_text, contents_text, other_content, shown_text};
 
 use cut_values::write_cut;
-use held::SharedContent;
+use held::{SharedContent, SmallList};
 use report::trap_name;
-use sequence::Seq;
 use std::alloc::AllocError;
 use values::{Content, RunValue};
 
@@ -71,7 +70,7 @@ fn write_other_contents(
 pub fn write_contents(
     text: &mut String,
     contents: Contents,
-    results: &Seq<SharedContent>,
+    results: &SmallList<SharedContent>,
 ) -> Result<(), AllocError>
     ensures { OnOk result (string_bytes text.new ≡ string_bytes text.old ++ contents_text contents results.now) }
 {

@@ -14,14 +14,13 @@ ghost use Rattle.main_text.specs.Traps.{trap_ended, trap_in, trap_in_outcome, tr
 use crate::attempts::write_made;
 use crate::endpoints::write_worker;
 use crate::happenings::{Happening, write_when_last};
-use held::SharedContent;
+use held::{SharedContent, SmallList};
 use ids::{AttemptId, ObjectId, WorkerId};
 use log_entries::Entry;
 use log_text::write_named;
 use log_words::{BirthIndex, Contents};
 use protocol_data::ClusterState;
 use report::trap_name;
-use sequence::Seq;
 use std::alloc::AllocError;
 use trap_sources::{trap_got, trapped_of};
 use values::{Content, Trap};
@@ -122,7 +121,7 @@ fn trap_in_content(content: &Content) -> Option<Trap>
 }
 
 /// The first trap in the contents of an attempt's results.
-fn trap_among(contents: &Seq<SharedContent>) -> Option<Trap>
+fn trap_among(contents: &SmallList<SharedContent>) -> Option<Trap>
     ensures { option_map trap_of result ≡ first (flat_map trap_in_outcome contents.now) }
 {
     for content in contents.as_slice() {

@@ -10,7 +10,7 @@ use crate::lists::{write_nodes, write_objects};
 use held::{SharedBirth, SharedContent};
 use ids::{AttemptId, NodeId, ObjectId};
 use log_words::{Contents, write_birth, write_content};
-use protocol_data::{EndedResult, Message, Reason};
+use protocol_data::{EndedResult, Message, Reason, SmallList};
 use report_text::kind_name;
 use sequence::Seq;
 use std::alloc::AllocError;
@@ -98,7 +98,7 @@ fn write_finished(
     contents: Contents,
     attempt: AttemptId,
     node: NodeId,
-    results: &Seq<EndedResult>,
+    results: &SmallList<EndedResult>,
 ) -> Result<(), AllocError>
     ensures { OnOk result (string_bytes text.new ≡ string_bytes text.old ++ finished_text contents attempt node results.now) }
 {

@@ -9,7 +9,7 @@ use crate::faulted::clear_askers;
 use crate::needs::{need_own_if_waiting, settled_number};
 use held::SharedContent;
 use ids::{NodeId, ObjectId, WorkerId};
-use protocol_data::{Message, WorkerContext, copy_of};
+use protocol_data::{Message, SmallList, WorkerContext, copy_of};
 use sequence::Seq;
 use std::alloc::{AllocError, Global};
 use worker_steps::{object_at, say};
@@ -36,7 +36,7 @@ fn tell_location(
 fn tell_locations(
     alloc: Global,
     here: &mut WorkerContext,
-    workers: &Seq<WorkerId>,
+    workers: &SmallList<WorkerId>,
     object: ObjectId,
     number: u32,
     locations: &Seq<NodeId>,
@@ -45,7 +45,7 @@ fn tell_locations(
     ensures { (x : Object) → settled_number x ≡ number → x.locations ≡ locations.now → x.kept ≡ kept.now
         → OnOk result (here.new ≡ tells_locations here.old workers.now object x) }
 {
-    for worker in &workers.items {
+    for worker in workers.as_slice() {
         tell_location(alloc, here, *worker, object, number, locations, kept)?;
     }
     Ok(())

@@ -14,7 +14,8 @@ use ids::{AttemptId, NodeId, ObjectId, WorkerId};
 use log_entries::Entry;
 use number_lists::{add_node, add_objects, object_at_number, row_of};
 use protocol_data::{
-    EndedResult, Message, Object, ObjectSource, Objects, OwnTask, Progress, WorkerContext, copy_of,
+    EndedResult, Message, Object, ObjectSource, Objects, OwnTask, Progress, SmallList,
+    WorkerContext, copy_of,
 };
 use sequence::Seq;
 use std::alloc::{AllocError, Global};
@@ -120,7 +121,7 @@ fn set_told_content_at(
     serial: u64,
     number: u32,
     node: NodeId,
-    results: &Seq<EndedResult>,
+    results: &SmallList<EndedResult>,
     place: usize,
 ) -> Result<(), AllocError>
     ensures { OnOk result (objects.new ≡ changed_at objects.old serial
@@ -144,7 +145,7 @@ fn settle_all(
     end: u64,
     number: u32,
     node: NodeId,
-    results: &Seq<EndedResult>,
+    results: &SmallList<EndedResult>,
 ) -> Result<(), AllocError>
     ensures { OnOk result (here.new ≡ settles here.old object number node (end - object.serial) results.now) }
 {
@@ -171,7 +172,7 @@ fn accept(
     here: &mut WorkerContext,
     attempt: AttemptId,
     node: NodeId,
-    results: &Seq<EndedResult>,
+    results: &SmallList<EndedResult>,
 ) -> Result<(), AllocError>
     ensures { (task : OwnTask) → task_of (item_at here.old.worker.objects attempt.object.serial) ≡ Some task → task.number ≡ attempt.number
         → OnOk result (here.new ≡ accepts here.old attempt task node results.now) }
@@ -198,7 +199,7 @@ fn take_end(
     worker: WorkerId,
     attempt: AttemptId,
     node: NodeId,
-    results: &Seq<EndedResult>,
+    results: &SmallList<EndedResult>,
 ) -> Result<(), AllocError>
     ensures { (task : OwnTask) → task_of (item_at here.old.worker.objects attempt.object.serial) ≡ Some task → task.number ≡ attempt.number
         → if_present attempt task ≡ true
@@ -219,7 +220,7 @@ pub fn finished_reached(
     worker: WorkerId,
     attempt: AttemptId,
     node: NodeId,
-    results: &Seq<EndedResult>,
+    results: &SmallList<EndedResult>,
 ) -> Result<(), AllocError>
     ensures { OnOk result (here.new ≡ finished_reached here.old worker attempt node results.now) }
 {

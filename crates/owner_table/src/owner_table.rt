@@ -14,7 +14,7 @@ use commit_steps::owner_steps::{
 };
 use held::SharedBirth;
 use ids::{AttemptId, NodeId, ObjectId, WorkerId};
-use protocol_data::{EndedResult, Endpoint, WorkerContext};
+use protocol_data::{EndedResult, Endpoint, SmallList, WorkerContext};
 use sequence::Seq;
 use std::alloc::{AllocError, Global};
 use values::Fault;
@@ -50,7 +50,7 @@ pub trait OwnerTable {
         worker: WorkerId,
         attempt: AttemptId,
         node: NodeId,
-        results: &Seq<EndedResult>,
+        results: &SmallList<EndedResult>,
     ) -> Result<(), AllocError>;
 
     /// The attempt has ended by a fault: if it is the present one, the objects of its task are resolved to that fault, but those that have one.
@@ -129,7 +129,7 @@ impl OwnerTable for WorkerContext {
         worker: WorkerId,
         attempt: AttemptId,
         node: NodeId,
-        results: &Seq<EndedResult>,
+        results: &SmallList<EndedResult>,
     ) -> Result<(), AllocError>
         ensures { OnOk result (self.new ≡ finished_reached self.old worker attempt node results.now) }
     {

@@ -9,7 +9,9 @@ use boxed_value::Boxed;
 use cluster_steps::new_node;
 use held::{Answers, Births, Prints, SharedBirth};
 use ids::{NodeId, ObjectId, WorkerId};
-use protocol_data::{Attempts, ClusterState, Execution, Node, Objects, Phase, Worker, Workers};
+use protocol_data::{
+    Attempts, ClusterState, Execution, Node, Objects, Phase, SmallList, Worker, Workers,
+};
 use sequence::Seq;
 use std::alloc::{AllocError, Global};
 use task_spec::Birth;
@@ -68,7 +70,7 @@ fn main_run(alloc: Global) -> Result<Execution, AllocError>
     ensures { IfOk result (λ run. run ≡ main_run) }
 {
     let spec = main_task(alloc)?;
-    let answers = Answers::new(alloc)?;
+    let answers = Answers::new();
     let owner = WorkerId(1);
     Ok(Execution {
         attempt: main_attempt(),
@@ -78,7 +80,7 @@ fn main_run(alloc: Global) -> Result<Execution, AllocError>
         prints: Prints::new(),
         answers,
         phase: Phase::Ready,
-        holds: Seq::new(alloc),
+        holds: SmallList::new(alloc),
         is_over: false,
         is_acknowledged: false,
     })

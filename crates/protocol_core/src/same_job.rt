@@ -67,14 +67,14 @@ fn are_answers(answers: &Answers, held: &Answers) -> bool
     ensures same { result ≡ true → answers.now ≡ held.now }
     ensures only { answers.now ≡ held.now → result ≡ true }
 {
-    are_same_contents(&answers.inner, &held.inner)
+    are_same_contents(answers.as_slice(), held.as_slice())
 }
 
 fn are_as_many(answers: &Answers, held: &Answers) -> bool
     ensures same { result ≡ true → length answers.now ≡ length held.now }
     ensures only { answers.now ≡ held.now → result ≡ true }
 {
-    answers.inner.len() == held.inner.len()
+    answers.as_slice().len() == held.as_slice().len()
 }
 
 /// Whether the job is the one of that number, as the attempt is given out, as far as one sees without reading what it bore, printed and was answered.

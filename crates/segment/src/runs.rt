@@ -37,7 +37,7 @@ fn run_again(alloc: Global, script: &Compiled, job: &JobParts) -> Result<Box<Pie
         IfSome p.value.frame (λ f. WaitsAfter (script_of script.now) (done_of job.now p.value) f.value)) }
     ensures counts { IfOk result (λ p. HasStepsOf (script_of script.now) job.now p.value.steps) }
 {
-    let mut piece = run_piece(alloc, script, &job.spec.inner, job.base, &job.answers.inner)?;
+    let mut piece = run_piece(alloc, script, &job.spec.inner, job.base, job.answers.as_slice())?;
     leave_after(&mut piece.births, job.births.len())?;
     leave_after(&mut piece.prints, job.prints.len())?;
     Ok(piece)
@@ -84,7 +84,7 @@ pub(crate) fn run_on(
         return run_again(alloc, script, job);
     };
     attest_spec(&job.spec);
-    let Some((answer, _)) = job.answers.inner.split_last() else {
+    let Some((answer, _)) = job.answers.as_slice().split_last() else {
         return run_again(alloc, script, job);
     };
     go_on(

@@ -12,12 +12,11 @@ ghost use Rattle.timeline.specs.Endings.{both_spans, death_data, event_data, get
 use crate::marks::mark_json;
 use crate::rows::{Row, runs};
 use crate::spans::{add_attempt, add_wait};
-use held::SharedContent;
+use held::{SharedContent, SmallList};
 use ids::ObjectId;
 use log_entries::{Entry, Event};
 use log_words::{BirthIndex, Contents, write_content, write_contents};
 use report_text::kind_name;
-use sequence::Seq;
 use serde_json::Value;
 use std::alloc::{AllocError, Global};
 use values::{Content, Fault};
@@ -39,7 +38,7 @@ fn content_name(alloc: Global, contents: Contents, content: &Content) -> Result<
 fn contents_name(
     alloc: Global,
     contents: Contents,
-    results: &Seq<SharedContent>,
+    results: &SmallList<SharedContent>,
 ) -> Result<String, AllocError>
     ensures { IfOk result (λ s. string_bytes s ≡ contents_text contents results.now) }
 {

@@ -6,11 +6,10 @@ ghost use Rattle.values.specs.Values.{content_of};
 ghost use Rattle.report_text.specs.of_report_lines.Main.{first};
 ghost use Rattle.trap_sources.specs.Chains.{is_trap, trap_after, trap_got, trap_origin, trapped_by, trapped_in, trapped_of};
 
-use held::SharedContent;
+use held::{SharedContent, SmallList};
 use ids::{AttemptId, ObjectId};
 use log_entries::Entry;
 use log_words::task_of;
-use sequence::Seq;
 use values::Content;
 
 fn is_trap(content: &Content) -> bool
@@ -55,7 +54,7 @@ pub fn trap_got(log: &[Entry], attempt: AttemptId) -> Option<ObjectId>
     last
 }
 
-fn has_trap(contents: &Seq<SharedContent>) -> bool
+fn has_trap(contents: &SmallList<SharedContent>) -> bool
     ensures { result ≡ list_any is_trap contents.now }
 {
     for content in contents.as_slice() {

@@ -12,14 +12,13 @@ ghost use Rattle.why_text.specs.Entries.{given_up_text, got_text, made_text, rel
 use crate::again::write_again;
 use crate::moments::{Moment, write_when};
 use crate::notes::{write_fault_note, write_kept_note, write_owner_of, write_release_note};
-use held::SharedContent;
+use held::{SharedContent, SmallList};
 use ids::{AttemptId, ObjectId, WorkerId};
 use log_entries::Entry;
 use log_text::write_named;
 use log_words::{
     BirthIndex, Contents, write_birth, write_content, write_contents, write_fault, write_objects,
 };
-use sequence::Seq;
 use std::alloc::{AllocError, Global};
 use task_spec::Birth;
 use values::{Content, Fault};
@@ -99,7 +98,7 @@ pub fn write_ended(
     log: &[Entry],
     moment: &Moment,
     attempt: AttemptId,
-    results: &Seq<SharedContent>,
+    results: &SmallList<SharedContent>,
 ) -> Result<(), AllocError>
     ensures { IsIndexOf index.now log.now → OnOk result (string_bytes text.new ≡ string_bytes text.old
         ++ ended_text contents (births log.now) (moment_of moment.now) attempt results.now) }

@@ -17,12 +17,11 @@ ghost use Rattle.why_text.specs.Holders.{is_gone, is_had_in, is_kept, is_owner_d
 use crate::moments::Moment;
 use crate::results::{is_in_result, is_small_result, objects_of};
 use crate::runs::is_node;
-use held::SharedContent;
+use held::{SharedContent, SmallList};
 use ids::{AttemptId, ObjectId};
 use log_entries::{Entry, Event};
 use log_text::{is_among, is_in_birth, node_of, opened};
 use log_words::{BirthIndex, add_objects, is_refusal_at};
-use sequence::Seq;
 use std::alloc::{AllocError, Global};
 use task_spec::Birth;
 use values::{Fault, FaultKind};
@@ -96,7 +95,7 @@ fn add_holder(
     holders: &mut Vec<ObjectId>,
     object: ObjectId,
     attempt: AttemptId,
-    results: &Seq<SharedContent>,
+    results: &SmallList<SharedContent>,
     holder: ObjectId,
 ) -> Result<(), AllocError>
     ensures { OnOk result (holders.new.items ≡ holders.old.items ++ filter (is_in_result object attempt results.now) (holder ∷ [])) }
@@ -112,7 +111,7 @@ fn holders_among(
     alloc: Global,
     object: ObjectId,
     attempt: AttemptId,
-    results: &Seq<SharedContent>,
+    results: &SmallList<SharedContent>,
     objects: &[ObjectId],
 ) -> Result<Vec<ObjectId>, AllocError>
     ensures { IfOk result (λ holders. holders.items ≡ filter (is_in_result object attempt results.now) objects.now) }
@@ -130,7 +129,7 @@ fn ended_holders(
     log: &[Entry],
     object: ObjectId,
     attempt: AttemptId,
-    results: &Seq<SharedContent>,
+    results: &SmallList<SharedContent>,
 ) -> Result<Vec<ObjectId>, AllocError>
     ensures { IsIndexOf index.now log.now → IfOk result
         (λ holders. holders.items ≡ filter (is_in_result object attempt results.now) (objects_of (births log.now) attempt)) }

@@ -5,12 +5,11 @@ ghost use Rattle.event_log.specs.Words.{births};
 ghost use Rattle.log_words.specs.Index.{IsIndexOf};
 ghost use Rattle.why_text.specs.Results.{is_in_result, is_small_result, objects_of};
 
-use held::SharedContent;
+use held::{SharedContent, SmallList};
 use ids::{AttemptId, ObjectId};
 use log_entries::Entry;
 use log_text::is_in_content;
 use log_words::{BirthIndex, objects_at};
-use sequence::Seq;
 use std::alloc::{AllocError, Global};
 
 /// The objects of the attempt's task, by the log of which that is the index.
@@ -31,7 +30,7 @@ pub fn is_in_result(
     alloc: Global,
     object: ObjectId,
     attempt: AttemptId,
-    results: &Seq<SharedContent>,
+    results: &SmallList<SharedContent>,
     holder: ObjectId,
 ) -> Result<bool, AllocError>
     ensures { IfOk result (λ b. b ≡ is_in_result object attempt results.now holder) }
@@ -45,7 +44,7 @@ pub fn is_in_result(
 
 /// Whether the content of the object is small, of those with which the attempt ended.
 #[tactic(auto, unfolding(crate::specs::Results::is_small_result))]
-pub fn is_small_result(attempt: AttemptId, results: &Seq<SharedContent>, object: ObjectId) -> bool
+pub fn is_small_result(attempt: AttemptId, results: &SmallList<SharedContent>, object: ObjectId) -> bool
     ensures { result ≡ is_small_result attempt results.now object }
 {
     let place = object.serial.saturating_sub(attempt.object.serial) as usize;

@@ -9,8 +9,7 @@ ghost use Rattle.protocol_data.specs.declared.tables.Execution.{Execution};
 use death_steps::is_unheard;
 use ids::{AttemptId, ObjectId};
 use number_lists::object_at_number;
-use protocol_data::{Holding, Message, ObjectSource, Phase, Progress, WorkerContext};
-use sequence::Seq;
+use protocol_data::{Holding, Message, ObjectSource, Phase, Progress, SmallList, WorkerContext};
 use std::alloc::{AllocError, Global};
 use worker_steps::{is_own, say, say_to_node, tell_stop};
 
@@ -78,10 +77,10 @@ fn ask_again(here: &mut WorkerContext) -> Result<(), AllocError>
 }
 
 /// The Holds that wait are sent again.
-fn send_holds(here: &mut WorkerContext, holds: &Seq<Holding>) -> Result<(), AllocError>
+fn send_holds(here: &mut WorkerContext, holds: &SmallList<Holding>) -> Result<(), AllocError>
     ensures { OnOk result (here.new ≡ sends_holds here.old holds.now) }
 {
-    for hold in &holds.items {
+    for hold in holds.as_slice() {
         let holder = hold.holder;
         let object = hold.object;
         say(here, object.owner, Message::Hold(holder, object))?;

@@ -7,8 +7,7 @@ ghost use Rattle.protocol_data.specs.declared.tables.Execution.{Execution};
 use crate::basics::say;
 use crate::contents::{ids_in_content, if_small};
 use held::SharedContent;
-use protocol_data::{EndedResult, Message, Phase, WorkerContext};
-use sequence::Seq;
+use protocol_data::{EndedResult, Message, Phase, SmallList, WorkerContext};
 use std::alloc::{AllocError, Global};
 
 /// What is told of a result with that content: the ids in it, and itself if it is small.
@@ -23,12 +22,12 @@ fn ended_result(alloc: Global, content: &SharedContent) -> Result<EndedResult, A
 /// What is told of results with these contents.
 fn ended_results(
     alloc: Global,
-    contents: &Seq<SharedContent>,
-) -> Result<Seq<EndedResult>, AllocError>
+    contents: &SmallList<SharedContent>,
+) -> Result<SmallList<EndedResult>, AllocError>
     ensures { IfOk result (λ rs. rs ≡ map ended_result contents.now) }
 {
-    let mut results = Seq::new(alloc);
-    for content in &contents.items {
+    let mut results = SmallList::new(alloc);
+    for content in contents.as_slice() {
         results.push(ended_result(alloc, content)?)?;
     }
     Ok(results)

@@ -3,7 +3,7 @@
 use crate::checks::failed::{Checked, wants};
 use held::{Printed, SharedBirth, SharedContent};
 use ids::{AttemptId, NodeId, ObjectId, WorkerId};
-use log_entries::{Entry, Event, Refusal, only_content};
+use log_entries::{Entry, Event, Refusal, SmallList};
 use report_text::{report_text, status_of};
 use std::alloc::{AllocError, Global};
 use task_spec::Birth;
@@ -66,7 +66,7 @@ fn faults(alloc: Global) -> Result<Vec<Entry>, AllocError> {
     let birth = SharedBirth::new(alloc, Birth::Put(RunValue::Int(6)))?;
     let content = SharedContent::new(alloc, values::Content::Trap(Trap::Loop))?;
     let shared = content.copy(alloc)?;
-    let contents = only_content(alloc, content)?;
+    let contents = SmallList::one(alloc, content);
     let log = vec![in alloc;
         Entry::Opened {
             worker: WorkerId(1),

@@ -30,7 +30,7 @@ fn end_in(entry: &Entry) -> Option<&SharedContent>
         return None;
     };
     if is_main(*attempt) {
-        return contents.items.first();
+        return contents.as_slice().first();
     }
     None
 }

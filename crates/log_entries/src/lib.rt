@@ -8,5 +8,7 @@ mod refusal;
 pub use entry::Entry;
 pub use event::Event;
 pub use held::values::Fault;
-pub use held::{Answers, Births, Printed, Prints, SharedBirth, SharedContent, SmallList};
+pub use held::{
+    Answers, Births, Outcomes, Printed, Prints, SharedBirth, SharedContent, SmallList, Stopped,
+};
 pub use refusal::Refusal;

@@ -37,7 +37,13 @@ fn run_again(alloc: Global, script: &Compiled, job: &JobParts) -> Result<Box<Pie
         IfSome p.value.frame (λ f. WaitsAfter (script_of script.now) (done_of job.now p.value) f.value)) }
     ensures counts { IfOk result (λ p. HasStepsOf (script_of script.now) job.now p.value.steps) }
 {
-    let mut piece = run_piece(alloc, script, &job.spec.inner, job.base, job.answers.as_slice())?;
+    let mut piece = run_piece(
+        alloc,
+        script,
+        &job.spec.inner,
+        job.base,
+        job.answers.as_slice(),
+    )?;
     leave_after(&mut piece.births, job.births.len())?;
     leave_after(&mut piece.prints, job.prints.len())?;
     Ok(piece)

@@ -6,8 +6,7 @@ ghost use Rattle.std.specs.Mem.{FitsInMemory};
 
 use std::alloc::{AllocError, Global};
 use std::marker::Model;
-use std::mem;
-use std::slice;
+use std::{mem, slice};
 
 /// The one item, or the items in a piece of memory of their own.
 #[derive(Drop, Debug)]

@@ -44,7 +44,11 @@ pub fn is_in_result(
 
 /// Whether the content of the object is small, of those with which the attempt ended.
 #[tactic(auto, unfolding(crate::specs::Results::is_small_result))]
-pub fn is_small_result(attempt: AttemptId, results: &SmallList<SharedContent>, object: ObjectId) -> bool
+pub fn is_small_result(
+    attempt: AttemptId,
+    results: &SmallList<SharedContent>,
+    object: ObjectId,
+) -> bool
     ensures { result ≡ is_small_result attempt results.now object }
 {
     let place = object.serial.saturating_sub(attempt.object.serial) as usize;

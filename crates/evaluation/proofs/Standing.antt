@@ -78,10 +78,10 @@ stands_so script spec g args depth retries others base given answers a halts is 
 
 -- the piece of an attempt
 module _ (n : ℕ) (p : Piece) (a : Attempt) (of : IsPieceOf n p a) where
-  pub piece_is : piece_of p ≡ piece_at a (stop_of p.stop)
+  pub piece_is : piece_of p ≡ piece_at a (stop_of p.outcomes.stop)
   piece_is =
-      ap (λ bs. record { births = bs; prints = p.prints; stop = stop_of p.stop }) of.births
-      ∙ ap (λ vs. record { births = map made_of a.births.items; prints = vs; stop = stop_of p.stop }) of.prints
+      ap (λ bs. record { births = bs; prints = p.outcomes.prints; stop = stop_of p.outcomes.stop }) of.births
+      ∙ ap (λ vs. record { births = map made_of a.births.items; prints = vs; stop = stop_of p.outcomes.stop }) of.prints
 
   pub kept_so : (script : Script) (b c : meant.Birth) (base : Id) (past : Past) (given answers : List Outcome) → c ≡ b → given ≡ answers →
       p.frame ≡ a.frame → KeepsFrame script b base past given a → Keeps script c base past answers p
@@ -99,5 +99,5 @@ module _ (n : ℕ) (p : Piece) (a : Attempt) (of : IsPieceOf n p a) where
           }) same
           ∙ ap (λ bs. record { answers = past.answers ++ answers; births = past.births ++ bs; prints = past.prints ++ map run_value_of a.prints.items })
           (sym of.births)
-          ∙ ap (λ vs. record { answers = past.answers ++ answers; births = past.births ++ p.births; prints = past.prints ++ vs })
+          ∙ ap (λ vs. record { answers = past.answers ++ answers; births = past.births ++ p.outcomes.births; prints = past.prints ++ vs })
           (sym of.prints)

@@ -2,8 +2,9 @@
 use Rattle.std.specs.Prelude.{◌≡◌, ◌⊎◌, ℕ, List, [], ◌∷◌, ◌++◌, map, Option, Some, None, IfSome}
 use Rattle.meaning.specs.Syntax.{Script}
 use Rattle.meaning.specs.Values as meant
-use Rattle.meaning.specs.Values.{Id, Named, Outcome, Trapped, Broken}
+use Rattle.meaning.specs.Values.{Id, Outcome, Trapped, Broken}
 use Rattle.meaning.specs.Runs as runs
+pub use Rattle.held.specs.Stops.{stop_of}
 use Rattle.values.specs.declared.content.Content.{Content}
 use Rattle.values.specs.Values.{content_of}
 use Rattle.frame_laws.specs.Resuming.{after}
@@ -14,16 +15,10 @@ use Rattle.frames.specs.Frames.{IsWaiting}
 use Rattle.frames.specs.Tasks.{stopped_by, piece_at}
 use Rattle.frames.specs.declared.attempt.Attempt.{Attempt}
 use Rattle.evaluation.specs.TaskValues.{IsTaskStop}
-use Rattle.evaluation.specs.declared.piece.PieceStop.{PieceStop}
-use Rattle.evaluation.specs.declared.piece.PieceStop.TheVariants as stops
 use Rattle.evaluation.specs.declared.piece.Piece.{Piece}
 
-abbrev pub stop_of : PieceStop → runs.Stop
-stop_of (stops.Needs o) = runs.Needs (Named o)
-stop_of (stops.Ends cs) = runs.Over cs
-
 abbrev pub piece_of : Piece → runs.Piece
-piece_of p = record { births = p.births; prints = p.prints; stop = stop_of p.stop }
+piece_of p = record { births = p.outcomes.births; prints = p.outcomes.prints; stop = stop_of p.outcomes.stop }
 
 -- it stops where no task does
 abbrev pub IsNoTaskStop : Option runs.Stop → Type 0
@@ -50,9 +45,9 @@ Stands n past a q = (s : runs.Stop) → stopped_by n a.halt ≡ Some s → q ≡
 
 -- the piece has what the attempt of a task of so many results did
 pub record IsPieceOf (n : ℕ) (p : Piece) (a : Attempt) : Type 0 where
-  pub births : p.births ≡ map made_of a.births.items
-  pub prints : p.prints ≡ map run_value_of a.prints.items
-  pub stop : stopped_by n a.halt ≡ Some (stop_of p.stop)
+  pub births : p.outcomes.births ≡ map made_of a.births.items
+  pub prints : p.outcomes.prints ≡ map run_value_of a.prints.items
+  pub stop : stopped_by n a.halt ≡ Some (stop_of p.outcomes.stop)
 
 -- all answers of one that goes on with this one
 abbrev pub answered_so : Past → Content → List Outcome
@@ -62,8 +57,8 @@ answered_so past c = past.answers ++ content_of c ∷ []
 abbrev pub past_with : Past → List Outcome → Piece → Past
 past_with past answers p = record {
   answers = past.answers ++ answers;
-  births = past.births ++ p.births;
-  prints = past.prints ++ p.prints;
+  births = past.births ++ p.outcomes.births;
+  prints = past.prints ++ p.outcomes.prints;
 }
 
 -- the piece's frame, if it has one, is where the task waits that was answered and did all this

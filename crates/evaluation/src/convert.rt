@@ -9,7 +9,7 @@ ghost use Rattle.frames.specs.Machines.{argument_of, made_of};
 ghost use Rattle.evaluation.specs.TaskValues.{IsNamed, IsTaskValue, EachTaskValue, IsTaskOutcome, AreTaskArguments, IsTaskBirth, AreTaskBirths};
 
 use frames::{Made, MarkedArgument, Outcome, Value, list};
-use held::{Printed, SharedBirth};
+use held::{Printed, SharedBirth, SmallList};
 use ids::ObjectId;
 use sequence::Seq;
 use std::alloc::{AllocError, AllocFailed, Global};
@@ -94,10 +94,10 @@ pub(crate) fn from_contents(alloc: Global, contents: &[Content]) -> Result<Vec<O
 pub(crate) fn from_arguments(
     alloc: Global,
     arguments: &[task_spec::Argument],
-) -> Result<Vec<MarkedArgument>, AllocError>
-    ensures { IfOk result (λ args. map argument_of args.items ≡ map task_argument arguments.now) }
+) -> Result<SmallList<MarkedArgument>, AllocError>
+    ensures { IfOk result (λ args. map argument_of args ≡ map task_argument arguments.now) }
 {
-    let mut copies = Vec::with_capacity(alloc, arguments.len())?;
+    let mut copies = SmallList::new(alloc);
     for argument in arguments {
         let value = from_value(alloc, &argument.value)?;
         copies.push(MarkedArgument {

@@ -10,7 +10,7 @@ mod trapping;
 
 pub use frames::{Compiled, Frame};
 pub use no_memory::NoMemory;
-pub use piece::{Piece, PieceError, PieceStop, go_on, run_piece};
+pub use piece::{Piece, PieceError, go_on, run_piece};
 pub use serial::{SerialError, SerialRun, run_serially};
 pub use serial_run::run_serial;
 pub use trapping::find_trap;

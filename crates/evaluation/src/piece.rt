@@ -23,8 +23,9 @@ use crate::convert::{
     ConversionError, from_arguments, from_content, from_contents, named, to_births, to_prints,
     to_value,
 };
+use boxed_value::Boxed;
 use frames::{Attempt, Compiled, Frame, Halt, Value, run_task};
-use held::{Printed, SharedBirth, SharedContent, SmallList};
+use held::{Outcomes, SharedContent, SmallList, Stopped};
 use ids::ObjectId;
 use sequence::Seq;
 use std::alloc::{AllocError, AllocFailed, Global};
@@ -32,25 +33,12 @@ use task_spec::Birth;
 use thiserror::Error;
 use values::{Content, RunValue, Trap};
 
-/// Where a piece stops.
-#[derive(Drop)]
-pub enum PieceStop {
-    /// At a get of this object, for which there is no answer left.
-    Needs(ObjectId),
-    /// At the end of the task, whose results have these contents.
-    Ends(SmallList<SharedContent>),
-}
-
-/// What a task does up to its next get: what it bears, in the order of the ids that the births take, what it prints,
-/// and where it stops.
+/// What a task does up to its next get: what it bears, in the order of the ids that the births take, what it prints, and where it stops.
 #[derive(Drop)]
 pub struct Piece {
-    /// What it bears, in the order of the ids that the births take.
-    pub births: Seq<SharedBirth>,
-    /// What it prints, in order.
-    pub prints: Seq<Printed>,
-    /// Where it stops: at a get that has no answer, or at the task's end.
-    pub stop: PieceStop,
+    /// Its births and prints, and where it stops: at a get for whose object there is no answer left, or at the task's end. They stand behind a
+    /// pointer from here on, up to the commit that takes them.
+    pub outcomes: Boxed<Outcomes>,
     /// Where it stops at a get, the frame from which it goes on with an answer.
     pub frame: Option<Box<Frame>>,
     /// How many steps it began since the last of its answers, or since its start where it had none: statements, and expressions but for
@@ -142,7 +130,7 @@ fn of_trap(alloc: Global, trap: Trap, count: usize) -> Result<SmallList<SharedCo
 }
 
 /// Where a run of so many results stopped, one at least, as tasks have it.
-fn to_stop(alloc: Global, halt: &Halt, count: usize) -> Result<PieceStop, ConversionError>
+fn to_stop(alloc: Global, halt: &Halt, count: usize) -> Result<Stopped, ConversionError>
     requires stops { is_stop halt.now ≡ true }
     requires some { 1 ≤ count }
     ensures value { IfOk result (λ s. stopped_by count halt.now ≡ Some (stop_of s)) }
@@ -151,14 +139,14 @@ fn to_stop(alloc: Global, halt: &Halt, count: usize) -> Result<PieceStop, Conver
 {
     match halt {
         Halt::Over(values) => match of_values(alloc, values, count) {
-            Ok(contents) => Ok(PieceStop::Ends(contents)),
+            Ok(contents) => Ok(Stopped::AtEnd(contents)),
             Err(error) => Err(error),
         },
         Halt::Asks(reference, _) => match named(reference) {
-            Ok(object) => Ok(PieceStop::Needs(object)),
+            Ok(object) => Ok(Stopped::AtGet(object)),
             Err(error) => Err(error),
         },
-        Halt::Trap(trap) => Ok(PieceStop::Ends(of_trap(alloc, *trap, count)?)),
+        Halt::Trap(trap) => Ok(Stopped::AtEnd(of_trap(alloc, *trap, count)?)),
         Halt::Broken => Err(ConversionError::Broken),
         Halt::NoMemory => Err(ConversionError::NoMemory),
         Halt::Bears(_, _) => unreachable!(),
@@ -167,12 +155,12 @@ fn to_stop(alloc: Global, halt: &Halt, count: usize) -> Result<PieceStop, Conver
 }
 
 /// What an attempt did up to where it stopped, as tasks have it, and its frame.
-fn to_piece(alloc: Global, attempt: Attempt, count: usize) -> Result<Box<Piece>, ConversionError>
+fn to_piece(alloc: Global, attempt: Attempt, count: usize) -> Result<Piece, ConversionError>
     requires stops { is_stop attempt.halt ≡ true }
     requires some { 1 ≤ count }
-    ensures value { IfOk result (λ p. IsPieceOf count p.value attempt) }
-    ensures frame { IfOk result (λ p. p.value.frame ≡ attempt.frame) }
-    ensures steps { IfOk result (λ p. p.value.steps ≡ attempt.steps) }
+    ensures value { IfOk result (λ p. IsPieceOf count p attempt) }
+    ensures frame { IfOk result (λ p. p.frame ≡ attempt.frame) }
+    ensures steps { IfOk result (λ p. p.steps ≡ attempt.steps) }
     ensures broken { IfErr result (λ e. e ≡ ConversionError.Broken → (past : Past) (q : runs.Piece) → Stands count past attempt q →
         IsBrokenStop q.stop) }
     ensures plain { IfErr result (λ e. e ≡ ConversionError.HasOutcome → (past : Past) (q : runs.Piece) → Stands count past attempt q →
@@ -188,25 +176,28 @@ fn to_piece(alloc: Global, attempt: Attempt, count: usize) -> Result<Box<Piece>,
     let stop = to_stop(alloc, &halt, count)?;
     let births = to_births(alloc, births)?;
     let prints = to_prints(alloc, &prints)?;
-    Ok(Box::new(
+    let outcomes = Boxed::new(
         alloc,
-        Piece {
+        Outcomes {
             births,
             prints,
             stop,
-            frame,
-            steps,
         },
-    )?)
+    )?;
+    Ok(Piece {
+        outcomes,
+        frame,
+        steps,
+    })
 }
 
 /// What an attempt did up to where it stopped, as tasks have it, and its frame.
-fn finish(alloc: Global, attempt: Attempt, count: usize) -> Result<Box<Piece>, PieceError>
+fn finish(alloc: Global, attempt: Attempt, count: usize) -> Result<Piece, PieceError>
     requires stops { is_stop attempt.halt ≡ true }
     requires some { 1 ≤ count }
-    ensures value { IfOk result (λ p. IsPieceOf count p.value attempt) }
-    ensures frame { IfOk result (λ p. p.value.frame ≡ attempt.frame) }
-    ensures steps { IfOk result (λ p. p.value.steps ≡ attempt.steps) }
+    ensures value { IfOk result (λ p. IsPieceOf count p attempt) }
+    ensures frame { IfOk result (λ p. p.frame ≡ attempt.frame) }
+    ensures steps { IfOk result (λ p. p.steps ≡ attempt.steps) }
     ensures broken { IfErr result (λ e. e ≡ PieceError.Broken → (past : Past) (q : runs.Piece) → Stands count past attempt q → IsTaskPiece q →
         IsBrokenStop q.stop) }
 {
@@ -221,25 +212,28 @@ fn finish(alloc: Global, attempt: Attempt, count: usize) -> Result<Box<Piece>, P
 
 /// A put's piece: it ends with its value at once.
 #[inline(never)]
-fn put_piece(alloc: Global, value: &RunValue) -> Result<Box<Piece>, PieceError>
-    ensures value { IfOk result (λ p. piece_of p.value ≡ stopped (Over (Val (value_of value.now) ∷ []))) }
-    ensures frame { IfOk result (λ p. p.value.frame ≡ None) }
-    ensures steps { IfOk result (λ p. p.value.steps ≡ 0) }
+fn put_piece(alloc: Global, value: &RunValue) -> Result<Piece, PieceError>
+    ensures value { IfOk result (λ p. piece_of p ≡ stopped (Over (Val (value_of value.now) ∷ []))) }
+    ensures frame { IfOk result (λ p. p.frame ≡ None) }
+    ensures steps { IfOk result (λ p. p.steps ≡ 0) }
     ensures only { IfErr result (λ e. e ≡ PieceError.NoMemory) }
 {
     let value = value.copy(alloc)?;
     let content = SharedContent::new(alloc, Content::Value(value))?;
     let contents = SmallList::one(alloc, content);
-    Ok(Box::new(
+    let outcomes = Boxed::new(
         alloc,
-        Piece {
+        Outcomes {
             births: Seq::new(alloc),
             prints: Seq::new(alloc),
-            stop: PieceStop::Ends(contents),
-            frame: None,
-            steps: 0,
+            stop: Stopped::AtEnd(contents),
         },
-    )?)
+    )?;
+    Ok(Piece {
+        outcomes,
+        frame: None,
+        steps: 0,
+    })
 }
 
 /// Runs a task from its start on the answers that it has so far, its births taking ids from `base` on.
@@ -249,16 +243,16 @@ pub fn run_piece(
     spec: &Birth,
     base: ObjectId,
     answers: &[Content],
-) -> Result<Box<Piece>, PieceError>
+) -> Result<Piece, PieceError>
     // What is given is the task's replay.
-    ensures replayed { IfOk result (λ p. piece_of p.value ≡ replay (script_of script.now) (birth_of spec.now) base (map content_of answers.now)) }
+    ensures replayed { IfOk result (λ p. piece_of p ≡ replay (script_of script.now) (birth_of spec.now) base (map content_of answers.now)) }
     // It is broken only where the replay is.
     ensures broken { IfErr result (λ e. e ≡ PieceError.Broken →
         IsBrokenStop (replay (script_of script.now) (birth_of spec.now) base (map content_of answers.now)).stop) }
     // Its frame, if it has one, is where the task waits that was so answered.
-    ensures keeps { IfOk result (λ p. Keeps (script_of script.now) (birth_of spec.now) base no_past (map content_of answers.now) p.value) }
+    ensures keeps { IfOk result (λ p. Keeps (script_of script.now) (birth_of spec.now) base no_past (map content_of answers.now) p) }
     // Its steps are those that the task began since the last of the answers.
-    ensures counts { IfOk result (λ p. HasSteps (script_of script.now) (birth_of spec.now) base (map content_of answers.now) p.value.steps) }
+    ensures counts { IfOk result (λ p. HasSteps (script_of script.now) (birth_of spec.now) base (map content_of answers.now) p.steps) }
 {
     match spec {
         Birth::Put(value) => put_piece(alloc, value),
@@ -275,7 +269,7 @@ pub fn run_piece(
                 alloc,
                 script,
                 function.as_str(),
-                &arguments,
+                arguments.as_slice(),
                 *depth,
                 base,
                 answers,
@@ -293,22 +287,22 @@ pub fn go_on(
     frame: Frame,
     others: u8,
     answer: &Content,
-) -> Result<Box<Piece>, PieceError>
+) -> Result<Piece, PieceError>
     // Behind what was done before, what is given is the task's replay.
     ensures replayed { IfOk result (λ p. (spec : meant.Birth) (base : Id) (past : Past) → others_of spec ≡ others →
         IsWaiting (script_of script.now) spec base past frame →
-        after past.births past.prints (piece_of p.value) ≡ replay (script_of script.now) spec base (answered_so past answer.now)) }
+        after past.births past.prints (piece_of p) ≡ replay (script_of script.now) spec base (answered_so past answer.now)) }
     // It is broken only where the replay is, if no value of the task's has an outcome in it.
     ensures broken { IfErr result (λ e. e ≡ PieceError.Broken → (spec : meant.Birth) (base : Id) (past : Past) → others_of spec ≡ others →
         IsTaskBirth spec → AreTaskOutcomes past.answers → IsWaiting (script_of script.now) spec base past frame →
         IsBrokenStop (replay (script_of script.now) spec base (answered_so past answer.now)).stop) }
     // Its frame, if it has one, is where the task waits that was so answered.
     ensures keeps { IfOk result (λ p. (spec : meant.Birth) (base : Id) (past : Past) → IsWaiting (script_of script.now) spec base past frame →
-        Keeps (script_of script.now) spec base past (content_of answer.now ∷ []) p.value) }
+        Keeps (script_of script.now) spec base past (content_of answer.now ∷ []) p) }
     // Its steps are those that the task began since this answer.
     ensures counts { IfOk result (λ p. (spec : meant.Birth) (base : Id) (past : Past) → others_of spec ≡ others →
         IsWaiting (script_of script.now) spec base past frame →
-        HasSteps (script_of script.now) spec base (answered_so past answer.now) p.value.steps) }
+        HasSteps (script_of script.now) spec base (answered_so past answer.now) p.steps) }
 {
     let answer = from_content(alloc, answer)?;
     let attempt = frame.go_on(alloc, script, answer)?;

@@ -6,17 +6,14 @@ use Rattle.meaning.specs.Meaning.{replay}
 use Rattle.meaning.specs.Values.{Birth, Named, Value}
 use Rattle.meaning.specs.Runs as runs
 use Rattle.meaning.specs.Runs.{Piece}
-use Rattle.evaluation.specs.declared.piece.PieceStop.{PieceStop}
-use Rattle.evaluation.specs.declared.piece.PieceStop.TheVariants as stops
-use Rattle.evaluation.specs.Pieces.{stop_of}
 use Rattle.segment.specs.Jobs.{Done, IsTrueOf, JobParts, replay_of, whole_of}
 use Rattle.event_log.specs.Entries.{Entry, Event, Commit}
 use Rattle.event_files.specs.declared.recorded.RecordedEvent.{RecordedEvent}
-use Rattle.protocol.specs.Jobs.{AtEnd, AtGet, CommitInput, Job, OfJob, Outcomes, Stopped}
+use Rattle.protocol.specs.Jobs.{AtEnd, AtGet, CommitInput, Job, OfJob, Outcomes, Stopped, stop_of}
 use Rattle.protocol.specs.Cluster.{ClusterState}
 use Rattle.protocol.specs.Answers.{Answer, answer, logged, whole_after}
 use Rattle.protocol.specs.Answers as answers
-use Rattle.seats.specs.of_protocol_board.Cores.{stopped_of, work_of}
+use Rattle.seats.specs.of_protocol_board.Cores.{work_of}
 use Rattle.seats.specs.of_protocol_board.Cores.{RunState}
 use Rattle.seats.specs.of_protocol_board.Cores.{Follows, GivesThat, IsApplied, IsHanded, IsHandedFor, IsOut, Reply, Tells}
 use Rattle.seats.specs.of_protocol_board.Replays.{AllPlay, IsDoneOn, Play, PlaysHistory, Step, found_no_memory, job_at, job_for, left_by, next_line, with_given}
@@ -41,10 +38,10 @@ meant_stop (runs.Needs (Named i)) = AtGet i
 meant_stop (runs.Needs r) = AtGet (record { owner = 0; serial = 0 })
 meant_stop (runs.Over cs) = AtEnd cs
 
-same_stop : (s : PieceStop) → stopped_of s ≡ meant_stop (stop_of s)
+same_stop : (s : Stopped) → s ≡ meant_stop (stop_of s)
 unfolding meant_stop
-same_stop (stops.Needs y) = refl
-same_stop (stops.Ends c) = refl
+same_stop (AtGet y) = refl
+same_stop (AtEnd c) = refl
 
 outcomes : (a b : List Birth) (c d : List Value) (s t : Stopped) → a ≡ b → c ≡ d → s ≡ t →
     ◌≡◌ {A = Outcomes} (record { births = a; prints = c; stop = s }) (record { births = b; prints = d; stop = t })

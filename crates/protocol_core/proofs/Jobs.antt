@@ -8,14 +8,12 @@ use Rattle.meaning.specs.Kinds.{IsBirthOf, MarkedOf}
 use Rattle.meaning.specs.Meaning.{replay}
 use Rattle.kind_laws.specs.Law.{HasKinds}
 use Rattle.script_check.specs.Scripts.{IsWellTyped}
-use Rattle.evaluation.specs.declared.piece.PieceStop.{PieceStop}
-use Rattle.evaluation.specs.declared.piece.PieceStop.TheVariants as stops
 use Rattle.evaluation.specs.Pieces as pieces
 use Rattle.segment.specs.Jobs.{JobParts, Done, IsTaskOf, IsBegun, IsTrueOf}
 use Rattle.event_log.specs.Entries.{Entry, Event, Claim, Commit, Deliver, Tick, Notice, NoticeNode, Evict, Lose, Kill, KillNode, Join}
 use Rattle.event_log.specs.Entries.{Limit, Refusal}
 use Rattle.event_log.specs.Words.{answers_of}
-use Rattle.protocol_core.specs.Work.{stopped_of, work_of}
+use Rattle.protocol_core.specs.Work.{work_of}
 use Rattle.protocol.specs.Answers.{Refuses, answer, decided, given_out, job_of, limited, takes}
 use Rattle.protocol.specs.Events.{happens}
 use Rattle.protocol.specs.Jobs.{JobRecord, CommitInput, Job, Nothing, OfAnother, OfJob, Outcomes}
@@ -137,18 +135,13 @@ have_answers script c kept goes_on law (Some d) own = has_answers script c kept 
 
 -- ---- what is handed in
 
-same_stop : (stop : PieceStop) → jobs.stop_of (stopped_of stop) ≡ pieces.stop_of stop
-same_stop (stops.Needs y) = refl
-same_stop (stops.Ends c) = refl
-
 -- what was done on a job goes on as the replay of its attempt does
 abbrev IsTrueOn : Script → Job → Outcomes → Type 0
 IsTrueOn script job d =
     replay script job.spec job.base job.answers ≡ record { births = job.births ++ d.births; prints = job.prints ++ d.prints; stop = jobs.stop_of d.stop }
 
 true_on : (script : Script) (d : Done) → IsTrueOf script d → IsTrueOn script d.job (work_of d.births d.prints d.stop)
-true_on script d h =
-    h ∙ ap (λ stop. record { births = d.job.births ++ d.births; prints = d.job.prints ++ d.prints; stop = stop }) (sym (same_stop d.stop))
+true_on script d h = h
 
 -- one attempt is out as that job
 one_out : (c : ClusterState) (j : ℕ) (run : Execution) → IsOutAs c j run → (g : JobRecord) (x : Worker) (other : Execution) → item_at c.jobs j ≡ Some g → worker_at c g.worker ≡ Some x → x.run ≡ Some other → run ≡ other

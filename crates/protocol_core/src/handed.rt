@@ -8,9 +8,7 @@ ghost use Rattle.protocol_core.specs.Own.{HasAnswersIn, HaveAnswersIn};
 ghost use Rattle.protocol_core.specs.Pace.{AreInPace};
 ghost use Rattle.protocol_core.specs.Steps.{IsHanded, IsHandedFor, IsOut};
 
-use crate::outcomes::outcomes_of;
 use crate::same_job::{is_job_in_pace, is_job_of, is_own_job};
-use boxed_value::Boxed;
 use log_entries::Event;
 use number_lists::item_at_number;
 use protocol_data::{ClusterState, CommitInput, Execution, Phase};
@@ -82,13 +80,7 @@ fn handed_for<S: ScriptName>(
     if !is_done_on(alloc, whole, job, &done, is_own)? {
         return Ok(CommitInput::OfAnother);
     }
-    let DoneParts {
-        job: _,
-        births,
-        prints,
-        stop,
-    } = done.into_parts();
-    let outcomes = Boxed::new(alloc, outcomes_of(births, prints, stop))?;
+    let DoneParts { job: _, outcomes } = done.into_parts();
     Ok(CommitInput::OfJob(outcomes))
 }
 

@@ -6,7 +6,6 @@ mod cores;
 mod cursor;
 mod handed;
 mod opening;
-mod outcomes;
 mod reply;
 mod same_job;
 mod state;

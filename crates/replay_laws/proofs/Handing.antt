@@ -6,14 +6,11 @@ use Rattle.meaning.specs.Runs as runs
 use Rattle.meaning.specs.Runs.{Piece}
 use Rattle.meaning.specs.Syntax.{Script}
 use Rattle.meaning.specs.Values as meant
-use Rattle.evaluation.specs.declared.piece.PieceStop.{PieceStop}
-use Rattle.evaluation.specs.declared.piece.PieceStop.TheVariants as stops
-use Rattle.evaluation.specs.Pieces as pieces
 use Rattle.segment.specs.Jobs.{Done, IsTrueOf, JobParts}
 use Rattle.event_log.specs.Entries.{Commit, Event}
 use Rattle.event_log.specs.Entries.{NoJob, Stale}
 use Rattle.event_log.specs.Rules.{Setting}
-use Rattle.migration.specs.of_protocol_board.Cores.{stopped_of, work_of}
+use Rattle.migration.specs.of_protocol_board.Cores.{work_of}
 use Rattle.protocol.specs.Answers.{job_of}
 use Rattle.protocol.specs.Events.{is_live_worker}
 use Rattle.protocol.specs.Jobs.{JobRecord, CommitInput, Job, Nothing, OfAnother, OfJob, Outcomes}
@@ -28,22 +25,12 @@ use Rattle.job_laws.proofs.Standing.{one_is_out}
 
 -- ---- it goes on as the attempt's replay does
 
-same_stop : (stop : PieceStop) → jobs.stop_of (stopped_of stop) ≡ pieces.stop_of stop
-same_stop (stops.Needs y) = refl
-same_stop (stops.Ends c) = refl
-
 abbrev IsTrueOn : Script → Job → Outcomes → Type 0
 IsTrueOn script job d =
     replay script job.spec job.base job.answers ≡ record { births = job.births ++ d.births; prints = job.prints ++ d.prints; stop = jobs.stop_of d.stop }
 
 true_on : (script : Script) (d : Done) → IsTrueOf script d → IsTrueOn script d.job (work_of d.births d.prints d.stop)
-true_on script d h =
-    h
-    ∙ ap (λ stop. record {
-      births = d.job.births ++ d.births;
-      prints = d.job.prints ++ d.prints;
-      stop = stop;
-    }) (sym (same_stop d.stop))
+true_on script d h = h
 
 right_job : (s : Setting) (c : ClusterState) (j : ℕ) (d : Done) → IsTrueOf s.script d → IsOut c j d.job →
     IsRight s c (Commit j) (OfJob (work_of d.births d.prints d.stop))
@@ -84,7 +71,7 @@ true_again : (script : Script) (d : Done) (job : JobParts) → d.job ≡ job →
 unfolding piece
 true_again script d job same is_true =
     ap (λ (j : Job). replay script j.spec j.base j.answers) (sym same) ∙ is_true
-    ∙ ap (λ (j : Job). piece (j.births ++ d.births) (j.prints ++ d.prints) (pieces.stop_of d.stop)) same
+    ∙ ap (λ (j : Job). piece (j.births ++ d.births) (j.prints ++ d.prints) (jobs.stop_of d.stop)) same
 
 nothing_apart : (w : Outcomes) → Nothing ≡ OfJob w → ⊥
 nothing_apart w e = cc

@@ -17,9 +17,9 @@ parts_equal : (bs cs : List meant.Birth) (vs ws : List meant.Value) (s t : runs.
 parts_equal bs cs vs ws s t eb ev es = ap (λ x. made x vs s) eb ∙ ap (λ x. made cs x s) ev ∙ ap (λ x. made cs ws x) es
 
 pub beyond_made : (j : JobParts) (p : Piece) (r : runs.Piece) (bs : List meant.Birth) (vs : List meant.Value) → piece_of p ≡ r →
-    bs ≡ drop (length j.births) p.births → vs ≡ drop (length j.prints) p.prints → made bs vs (stop_of p.stop) ≡ beyond j r
+    bs ≡ drop (length j.births) p.outcomes.births → vs ≡ drop (length j.prints) p.outcomes.prints → made bs vs (stop_of p.outcomes.stop) ≡ beyond j r
 beyond_made j p r bs vs e eb ev =
-    parts_equal bs (drop (length j.births) p.births) vs (drop (length j.prints) p.prints) (stop_of p.stop) (stop_of p.stop) eb ev refl ∙ ap (beyond j) e
+    parts_equal bs (drop (length j.births) p.outcomes.births) vs (drop (length j.prints) p.outcomes.prints) (stop_of p.outcomes.stop) (stop_of p.outcomes.stop) eb ev refl ∙ ap (beyond j) e
 
 -- a replay on what a job has is the job's
 pub replayed_as : (script : Script) (k j : JobParts) (p : runs.Piece) (spec : meant.Birth) (cs : List meant.Outcome) → k ≡ j → spec ≡ k.spec → cs ≡ k.answers →
@@ -38,9 +38,9 @@ pub whole_made : (j : JobParts) (p : Piece) (r : runs.Piece) → IsFirst j.birth
 whole_made j p r fb fv e =
     let bs = j.births in
     let vs = j.prints in
-    let nb : drop (length bs) r.births ≡ p.births = sym (ap (λ q. q.births) e) in
-    let nv : drop (length vs) r.prints ≡ p.prints = sym (ap (λ q. q.prints) e) in
-    parts_equal r.births (bs ++ p.births) r.prints (vs ++ p.prints) r.stop (stop_of p.stop)
+    let nb : drop (length bs) r.births ≡ p.outcomes.births = sym (ap (λ q. q.births) e) in
+    let nv : drop (length vs) r.prints ≡ p.outcomes.prints = sym (ap (λ q. q.prints) e) in
+    parts_equal r.births (bs ++ p.outcomes.births) r.prints (vs ++ p.outcomes.prints) r.stop (stop_of p.outcomes.stop)
     (beginning_and_rest bs r.births fb ∙ ap (λ x. bs ++ x) nb)
     (beginning_and_rest vs r.prints fv ∙ ap (λ x. vs ++ x) nv)
     (sym (ap (λ q. q.stop) e))

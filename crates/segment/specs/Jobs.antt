@@ -7,8 +7,8 @@ use Rattle.meaning.specs.Runs.{Piece}
 use Rattle.meaning.specs.Meaning.{find, run_birth, replay}
 use Rattle.meaning.specs.Kinds.{MarkedOf, AnswersFit}
 use Rattle.frame_laws.specs.Steps.{HasSteps}
-use Rattle.evaluation.specs.declared.piece.PieceStop.{PieceStop}
-use Rattle.evaluation.specs.Pieces.{stop_of}
+use Rattle.held.specs.declared.outcomes.Stopped.{Stopped}
+use Rattle.held.specs.Stops.{stop_of}
 -- a job: its number, the attempt and its task, the id of its first birth, what it did so far, and its answers so far
 pub use Rattle.held.specs.declared.job.JobParts.{JobParts}
 
@@ -17,7 +17,7 @@ pub record Done : Type 0 where
   pub job : JobParts
   pub births : List Birth
   pub prints : List Value
-  pub stop : PieceStop
+  pub stop : Stopped
 
 -- what the job's task does on the job's answers
 abbrev pub replay_of : Script → JobParts → Piece

@@ -4,4 +4,4 @@ use Rattle.segment.specs.Jobs.{JobParts, Done}
 
 -- a job with what was done on it
 abbrev pub done_of : JobParts → Piece → Done
-done_of j p = record { job = j; births = p.births; prints = p.prints; stop = p.stop }
+done_of j p = record { job = j; births = p.outcomes.births; prints = p.outcomes.prints; stop = p.outcomes.stop }

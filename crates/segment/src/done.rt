@@ -8,9 +8,9 @@ ghost use Rattle.segment.specs.Pieces.{done_of};
 
 use crate::job::Job;
 use crate::script_name::ScriptName;
-use evaluation::{Frame, Piece, PieceStop};
-use held::{Printed, SharedBirth};
-use sequence::Seq;
+use boxed_value::Boxed;
+use evaluation::{Frame, Piece};
+use held::{Outcomes, Printed, SharedBirth, Stopped};
 use std::marker::Model;
 
 /// A job that was run, and the plain parts of what was done on it.
@@ -18,12 +18,8 @@ use std::marker::Model;
 pub struct DoneParts<S: ScriptName> {
     /// The job as it was given out.
     pub job: Job<S>,
-    /// What the attempt bore beyond what the job had.
-    pub births: Seq<SharedBirth>,
-    /// What the attempt printed beyond what the job had.
-    pub prints: Seq<Printed>,
-    /// Where it stopped: at a get that has no answer yet, or at the task's end.
-    pub stop: PieceStop,
+    /// What the attempt bore and printed beyond what the job had, and where it stopped: at a get that has no answer yet, or at the task's end.
+    pub outcomes: Boxed<Outcomes>,
 }
 
 /// A job of the script `S` that was run, and what was done on it. It is true of its job: the job's births and prints
@@ -32,7 +28,7 @@ pub struct DoneParts<S: ScriptName> {
 #[derive(Drop)]
 pub struct Done<S: ScriptName> {
     job: Job<S>,
-    piece: Box<Piece>,
+    piece: Piece,
 }
 
 impl<S: ScriptName> Model for Done<S> {
@@ -47,19 +43,19 @@ impl<S: ScriptName> Model for Done<S> {
 
     ghost coded = { Prim.hlevel (codes, birth_code, value_code, outcome_code) };
 
-    ghost view = { λ d. done_of d.job d.piece.value };
+    ghost view = { λ d. done_of d.job d.piece };
 
-    ghost invariant = { λ d. IsTrueOf S.script (done_of d.job d.piece.value)
-        × IfSome d.piece.value.frame (λ f. WaitsAfter S.script (done_of d.job d.piece.value) f.value) × HasStepsOf S.script d.job d.piece.value.steps };
+    ghost invariant = { λ d. IsTrueOf S.script (done_of d.job d.piece)
+        × IfSome d.piece.frame (λ f. WaitsAfter S.script (done_of d.job d.piece) f.value) × HasStepsOf S.script d.job d.piece.steps };
 }
 
 impl<S: ScriptName> Done<S> {
     /// The job with what was done on it.
-    pub(crate) fn new(job: Job<S>, piece: Box<Piece>) -> Done<S>
-        requires is_true { IsTrueOf S.script (done_of job piece.value) }
-        requires waits { IfSome piece.value.frame (λ f. WaitsAfter S.script (done_of job piece.value) f.value) }
-        requires counts { HasStepsOf S.script job piece.value.steps }
-        ensures { result ≡ done_of job piece.value }
+    pub(crate) fn new(job: Job<S>, piece: Piece) -> Done<S>
+        requires is_true { IsTrueOf S.script (done_of job piece) }
+        requires waits { IfSome piece.frame (λ f. WaitsAfter S.script (done_of job piece) f.value) }
+        requires counts { HasStepsOf S.script job piece.steps }
+        ensures { result ≡ done_of job piece }
     {
         Done { job, piece }
     }
@@ -76,21 +72,21 @@ impl<S: ScriptName> Done<S> {
     pub fn births(&self) -> &[SharedBirth]
         ensures { result.now ≡ self.now.births }
     {
-        self.piece.births.as_slice()
+        self.piece.outcomes.births.as_slice()
     }
 
     /// What the attempt printed beyond what the job had.
     pub fn prints(&self) -> &[Printed]
         ensures { result.now ≡ self.now.prints }
     {
-        self.piece.prints.as_slice()
+        self.piece.outcomes.prints.as_slice()
     }
 
     /// Where the job stopped: at a get of an object for which there was no answer left, or at the task's end.
-    pub fn stop(&self) -> &PieceStop
+    pub fn stop(&self) -> &Stopped
         ensures { result.now ≡ self.now.stop }
     {
-        &self.piece.stop
+        &self.piece.outcomes.stop
     }
 
     /// How many steps the attempt began since its last stop: statements, and expressions but for parentheses, each when it begins. The last stop
@@ -112,24 +108,17 @@ impl<S: ScriptName> Done<S> {
     /// The job, and what was done on it.
     pub fn into_parts(self) -> DoneParts<S>
         ensures job { result.job ≡ self.job }
-        ensures births { result.births ≡ self.births }
-        ensures prints { result.prints ≡ self.prints }
-        ensures stop { result.stop ≡ self.stop }
+        ensures births { result.outcomes.births ≡ self.births }
+        ensures prints { result.outcomes.prints ≡ self.prints }
+        ensures stop { result.outcomes.stop ≡ self.stop }
         ensures is_true { IsTrueOf S.script self }
     {
         let Done { job, piece } = self;
         let Piece {
-            births,
-            prints,
-            stop,
+            outcomes,
             frame: _,
             steps: _,
-        } = Box::into_inner(piece);
-        DoneParts {
-            job,
-            births,
-            prints,
-            stop,
-        }
+        } = piece;
+        DoneParts { job, outcomes }
     }
 }

@@ -8,6 +8,6 @@ mod runs;
 mod script_name;
 
 pub use done::{Done, DoneParts};
-pub use evaluation::{Compiled, Frame, NoMemory, PieceStop};
+pub use evaluation::{Compiled, Frame, NoMemory};
 pub use job::Job;
 pub use script_name::ScriptName;

@@ -30,12 +30,12 @@ fn leave_after<T: Drop>(all: &mut Seq<T>, count: usize) -> Result<(), AllocError
 
 /// Runs the task from its start on the answers, and gives what it bears and prints beyond what it bore and printed before. What the
 /// run makes again is dropped.
-fn run_again(alloc: Global, script: &Compiled, job: &JobParts) -> Result<Box<Piece>, PieceError>
-    ensures beyond { IfOk result (λ p. piece_of p.value ≡ beyond job.now (replay_of (script_of script.now) job.now)) }
+fn run_again(alloc: Global, script: &Compiled, job: &JobParts) -> Result<Piece, PieceError>
+    ensures beyond { IfOk result (λ p. piece_of p ≡ beyond job.now (replay_of (script_of script.now) job.now)) }
     ensures broken { IfErr result (λ e. e ≡ PieceError.Broken → IsBrokenStop (replay_of (script_of script.now) job.now).stop) }
-    ensures waits { IfOk result (λ p. IsTrueOf (script_of script.now) (done_of job.now p.value) →
-        IfSome p.value.frame (λ f. WaitsAfter (script_of script.now) (done_of job.now p.value) f.value)) }
-    ensures counts { IfOk result (λ p. HasStepsOf (script_of script.now) job.now p.value.steps) }
+    ensures waits { IfOk result (λ p. IsTrueOf (script_of script.now) (done_of job.now p) →
+        IfSome p.frame (λ f. WaitsAfter (script_of script.now) (done_of job.now p) f.value)) }
+    ensures counts { IfOk result (λ p. HasStepsOf (script_of script.now) job.now p.steps) }
 {
     let mut piece = run_piece(
         alloc,
@@ -44,8 +44,8 @@ fn run_again(alloc: Global, script: &Compiled, job: &JobParts) -> Result<Box<Pie
         job.base,
         job.answers.as_slice(),
     )?;
-    leave_after(&mut piece.births, job.births.len())?;
-    leave_after(&mut piece.prints, job.prints.len())?;
+    leave_after(&mut piece.outcomes.births, job.births.len())?;
+    leave_after(&mut piece.outcomes.prints, job.prints.len())?;
     Ok(piece)
 }
 
@@ -78,13 +78,13 @@ pub(crate) fn run_on(
     script: &Compiled,
     job: &JobParts,
     frame: Option<Box<Frame>>,
-) -> Result<Box<Piece>, PieceError>
+) -> Result<Piece, PieceError>
     requires begun { IsBegun (script_of script.now) job.now }
     requires fits { IfSome frame (λ f. Fits (script_of script.now) job.now f.value) }
-    ensures whole { IfOk result (λ p. IsTrueOf (script_of script.now) (done_of job.now p.value)) }
+    ensures whole { IfOk result (λ p. IsTrueOf (script_of script.now) (done_of job.now p)) }
     ensures broken { IfErr result (λ e. e ≡ PieceError.Broken → IsBrokenStop (replay_of (script_of script.now) job.now).stop) }
-    ensures waits { IfOk result (λ p. IfSome p.value.frame (λ f. WaitsAfter (script_of script.now) (done_of job.now p.value) f.value)) }
-    ensures counts { IfOk result (λ p. HasStepsOf (script_of script.now) job.now p.value.steps) }
+    ensures waits { IfOk result (λ p. IfSome p.frame (λ f. WaitsAfter (script_of script.now) (done_of job.now p) f.value)) }
+    ensures counts { IfOk result (λ p. HasStepsOf (script_of script.now) job.now p.steps) }
 {
     let Some(frame) = frame else {
         return run_again(alloc, script, job);

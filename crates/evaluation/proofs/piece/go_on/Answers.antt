@@ -16,8 +16,8 @@ returns-clause-replayed c =
     let a = c.in_ok-attempt.attempt in
     if_ok _ _ c.finish.result
     (λ p of spec base past counted waiting.
-    ap (after past.births past.prints) (piece_is (c.args.others + 1) p.value a of)
-    ∙ sym (c.in_ok-attempt.ensures.halts spec base past waiting (stop_of p.value.stop) (stopped_of a.halt spec c.args.others _ counted of.stop))
+    ap (after past.births past.prints) (piece_is (c.args.others + 1) p a of)
+    ∙ sym (c.in_ok-attempt.ensures.halts spec base past waiting (stop_of p.outcomes.stop) (stopped_of a.halt spec c.args.others _ counted of.stop))
     ∙ ap (λ o. replay script spec base (past.answers ++ o ∷ [])) c.in_ok-answer.ensures)
     c.finish.ensures.value
 
@@ -38,7 +38,7 @@ returns-clause-keeps c =
     let script = script_of c.args.script.now in
     both_ok _ _ _ c.finish.result
     (λ p of frame spec base past waiting.
-    kept_so (c.args.others + 1) p.value c.in_ok-attempt.attempt of script spec spec base past _ _ refl (ap (λ o. o ∷ []) c.in_ok-answer.ensures) frame
+    kept_so (c.args.others + 1) p c.in_ok-attempt.attempt of script spec spec base past _ _ refl (ap (λ o. o ∷ []) c.in_ok-answer.ensures) frame
     (c.in_ok-attempt.ensures.keeps spec base past waiting))
     c.finish.ensures.value c.finish.ensures.frame
 
@@ -49,5 +49,5 @@ returns-clause-counts c =
     (λ p of steps spec base past counted waiting.
     subst (HasSteps script spec base (answered_so past c.args.answer.now)) (sym steps)
     (subst (λ o. HasSteps script spec base (past.answers ++ o ∷ []) c.in_ok-attempt.attempt.steps) c.in_ok-answer.ensures
-    (c.in_ok-attempt.ensures.counts spec base past waiting (stop_of p.value.stop) (stopped_of c.in_ok-attempt.attempt.halt spec c.args.others _ counted of.stop))))
+    (c.in_ok-attempt.ensures.counts spec base past waiting (stop_of p.outcomes.stop) (stopped_of c.in_ok-attempt.attempt.halt spec c.args.others _ counted of.stop))))
     c.finish.ensures.value c.finish.ensures.steps

@@ -30,7 +30,7 @@ returns-in_ok-attempt-in-Task-clause-replayed c =
     (map outcome_of c.in_ok-answers-in-Task.answers.items) answers c.in_ok-attempt-in-Task.attempt (c.in_ok-attempt-in-Task.ensures.halts c.in-Task.retries c.in-Task.others)
     is c.in_ok-answers-in-Task.ensures in
     if_ok _ _ c.finish.result
-    (λ p of. piece_is (c.in-Task.others + 1) p.value c.in_ok-attempt-in-Task.attempt of ∙ sym (stands (stop_of p.value.stop) of.stop))
+    (λ p of. piece_is (c.in-Task.others + 1) p c.in_ok-attempt-in-Task.attempt of ∙ sym (stands (stop_of p.outcomes.stop) of.stop))
     c.finish.ensures.value
 
 -- it is broken only where the replay is
@@ -63,7 +63,7 @@ returns-in_ok-attempt-in-Task-clause-keeps c =
     ∙ ap (λ xs. task c.as_str.result.now (map task_argument xs)) (sym c.deref.ensures.value)
     ∙ ap (task c.as_str.result.now) (sym c.in_ok-arguments-in-Task.ensures ∙ ap (map argument_of) (sym c.deref-in-Task.ensures.value)) in
     both_ok _ _ _ c.finish.result
-    (λ p of frame. kept_so (c.in-Task.others + 1) p.value c.in_ok-attempt-in-Task.attempt of script (task c.as_str.result.now (map argument_of c.deref-in-Task.result.now))
+    (λ p of frame. kept_so (c.in-Task.others + 1) p c.in_ok-attempt-in-Task.attempt of script (task c.as_str.result.now (map argument_of c.deref-in-Task.result.now))
     (birth_of c.args.spec.now) c.args.base no_past (map outcome_of c.in_ok-answers-in-Task.answers.items) answers is c.in_ok-answers-in-Task.ensures
     frame (c.in_ok-attempt-in-Task.ensures.keeps c.in-Task.retries c.in-Task.others))
     c.finish.ensures.value c.finish.ensures.frame
@@ -83,6 +83,6 @@ returns-in_ok-attempt-in-Task-clause-counts c =
     (λ p of steps. subst (HasSteps script (birth_of c.args.spec.now) base (map content_of c.args.answers.now)) (sym steps)
     (subst (λ os. HasSteps script (birth_of c.args.spec.now) base os a.steps) c.in_ok-answers-in-Task.ensures
     (subst (λ b. HasSteps script b base (map outcome_of c.in_ok-answers-in-Task.answers.items) a.steps) (sym is)
-    (c.in_ok-attempt-in-Task.ensures.counts c.in-Task.retries c.in-Task.others (stop_of p.value.stop)
+    (c.in_ok-attempt-in-Task.ensures.counts c.in-Task.retries c.in-Task.others (stop_of p.outcomes.stop)
     (stopped_of a.halt (task c.as_str.result.now (map argument_of c.deref-in-Task.result.now)) c.in-Task.others _ refl of.stop)))))
     c.finish.ensures.value c.finish.ensures.steps

@@ -3,7 +3,7 @@ use Rattle.meaning.specs.Runs as runs
 use Rattle.frames.specs.Values.{value_of}
 use Rattle.frames.specs.Courses.{Past}
 use Rattle.evaluation.specs.TaskValues.{IsTaskPiece, AreTaskBirths, EachTaskValue}
-use Rattle.evaluation.specs.declared.piece.Piece.{Piece}
+use Rattle.held.specs.declared.outcomes.Outcomes.{Outcomes}
 use Rattle.evaluation.specs.Pieces.{stop_of, IsBrokenStop, Stands}
 use Rattle.evaluation.specs.declared.convert.ConversionError.{ConversionError}
 use Rattle.evaluation.specs.declared.convert.ConversionError.TheVariants.{Broken, HasOutcome}
@@ -65,9 +65,9 @@ returns-in_err-prints-clause-plain c =
 -- with all three converted it is the piece of that attempt
 pub returns-clause-value : goal.returns-clause-value
 returns-clause-value c =
-    let is = c.in_ok-new.ensures.ok in
+    let is = c.in_ok-outcomes.ensures in
     record {
-      births = ap (λ (p : Piece). p.births) is ∙ c.in_ok-births.ensures.value;
-      prints = ap (λ (p : Piece). p.prints) is ∙ c.in_ok-prints.ensures.value ∙ ap (map value_of) c.deref.ensures.value;
-      stop = c.in_ok-stop.ensures.value ∙ ap (λ (p : Piece). Some (stop_of p.stop)) (sym is);
+      births = ap (λ (o : Outcomes). o.births) is ∙ c.in_ok-births.ensures.value;
+      prints = ap (λ (o : Outcomes). o.prints) is ∙ c.in_ok-prints.ensures.value ∙ ap (map value_of) c.deref.ensures.value;
+      stop = c.in_ok-stop.ensures.value ∙ ap (λ (o : Outcomes). Some (stop_of o.stop)) (sym is);
     }

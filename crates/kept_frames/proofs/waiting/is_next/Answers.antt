@@ -10,8 +10,7 @@ returns-then-is_own g c is_own =
     let j = c.args.job.now in
     let earlier = c.in-Some.earlier.now in
     let answer = c.in-Some.field-0-0.now in
-    let items : map content_of c.deref-2.result.now ≡ j.answers =
-    ap (map content_of) (c.deref-2.ensures.value ∙ ap (λ v. v.items) c.deref.ensures) ∙ c.behind-job.view_is ∙ c.answers.ensures in
+    let items : map content_of c.as_slice.result.now ≡ j.answers = sym c.as_slice.ensures ∙ c.answers.ensures in
     let ends : j.answers ≡ map content_of earlier ++ content_of answer ∷ [] =
     sym items ∙ ap (map content_of) c.in-Some.ensures.cases.0 ∙ map_last content_of earlier answer in
     next_so (data_of c.args.known.now) j (map content_of earlier) (content_of answer) ends (c.is_shaped.ensures c.if-not-is_shaped.false) (c.requires is_own)

@@ -22,14 +22,14 @@ pub returns-in_default-clause-whole : goal.returns-in_default-clause-whole
 returns-in_default-clause-whole c =
     let j = c.args.job.now in
     if_ok _ _ c.run_again.result
-    (λ p is. whole_made j p.value (replay_of (script_of c.args.script.now) j) c.requires.begun.births c.requires.begun.prints is) c.run_again.ensures.beyond
+    (λ p is. whole_made j p (replay_of (script_of c.args.script.now) j) c.requires.begun.births c.requires.begun.prints is) c.run_again.ensures.beyond
 
 -- and where it waits, it waits for the next answer
 pub returns-in_default-clause-waits : goal.returns-in_default-clause-waits
 returns-in_default-clause-waits c =
     let j = c.args.job.now in
     both_ok _ _ _ c.run_again.result
-    (λ p is waits. waits (whole_made j p.value (replay_of (script_of c.args.script.now) j) c.requires.begun.births c.requires.begun.prints is))
+    (λ p is waits. waits (whole_made j p (replay_of (script_of c.args.script.now) j) c.requires.begun.births c.requires.begun.prints is))
     c.run_again.ensures.beyond c.run_again.ensures.waits
 
 -- with a frame it goes on with the last answer, and before that stands what the job had
@@ -39,8 +39,7 @@ returns-clause-whole c =
     let script = script_of c.args.script.now in
     let rest = map content_of c.in-Some-split_last.field-0-1.now in
     let answer = content_of c.in-Some-split_last.answer.now in
-    let items : map content_of c.deref-2.result.now ≡ j.answers =
-    ap (map content_of) (c.deref-2.ensures.value ∙ ap (λ v. v.items) c.deref.ensures) ∙ ap (λ (p : JobParts). p.answers) c.job.view_is in
+    let items : map content_of c.as_slice.result.now ≡ j.answers = sym c.as_slice.ensures ∙ ap (λ (p : JobParts). p.answers) c.job.view_is in
     let last : j.answers ≡ rest ++ answer ∷ [] =
     sym items ∙ ap (map content_of) c.in-Some-split_last.ensures.cases.0 ∙ map_last content_of c.in-Some-split_last.field-0-1.now c.in-Some-split_last.answer.now in
     let kept = subst (λ f. IfSome f (λ b. Fits script j b.value)) c.in-Some.is c.requires.fits in
@@ -58,8 +57,7 @@ returns-clause-broken c =
     let script = script_of c.args.script.now in
     let rest = map content_of c.in-Some-split_last.field-0-1.now in
     let answer = content_of c.in-Some-split_last.answer.now in
-    let items : map content_of c.deref-2.result.now ≡ j.answers =
-    ap (map content_of) (c.deref-2.ensures.value ∙ ap (λ v. v.items) c.deref.ensures) ∙ ap (λ (p : JobParts). p.answers) c.job.view_is in
+    let items : map content_of c.as_slice.result.now ≡ j.answers = sym c.as_slice.ensures ∙ ap (λ (p : JobParts). p.answers) c.job.view_is in
     let last : j.answers ≡ rest ++ answer ∷ [] =
     sym items ∙ ap (map content_of) c.in-Some-split_last.ensures.cases.0 ∙ map_last content_of c.in-Some-split_last.field-0-1.now c.in-Some-split_last.answer.now in
     let kept = subst (λ f. IfSome f (λ b. Fits script j b.value)) c.in-Some.is c.requires.fits in
@@ -78,16 +76,15 @@ returns-clause-waits c =
     let script = script_of c.args.script.now in
     let rest = map content_of c.in-Some-split_last.field-0-1.now in
     let answer = content_of c.in-Some-split_last.answer.now in
-    let items : map content_of c.deref-2.result.now ≡ j.answers =
-    ap (map content_of) (c.deref-2.ensures.value ∙ ap (λ v. v.items) c.deref.ensures) ∙ ap (λ (p : JobParts). p.answers) c.job.view_is in
+    let items : map content_of c.as_slice.result.now ≡ j.answers = sym c.as_slice.ensures ∙ ap (λ (p : JobParts). p.answers) c.job.view_is in
     let last : j.answers ≡ rest ++ answer ∷ [] =
     sym items ∙ ap (map content_of) c.in-Some-split_last.ensures.cases.0 ∙ map_last content_of c.in-Some-split_last.field-0-1.now c.in-Some-split_last.answer.now in
     let kept = subst (λ f. IfSome f (λ b. Fits script j b.value)) c.in-Some.is c.requires.fits in
     let fits : Fits script j c.into_inner.result = subst (Fits script j) (sym c.into_inner.ensures) kept in
     let waits = waits_last script j c.into_inner.result rest answer last fits in
     if_ok _ _ c.go_on.result
-    (λ p keeps. subst (λ cs. IfSome p.value.frame (λ f. IsWaiting script j.spec j.base
-    (record { answers = cs; births = (whole_of (done_of j p.value)).births; prints = (whole_of (done_of j p.value)).prints }) f.value))
+    (λ p keeps. subst (λ cs. IfSome p.frame (λ f. IsWaiting script j.spec j.base
+    (record { answers = cs; births = (whole_of (done_of j p)).births; prints = (whole_of (done_of j p)).prints }) f.value))
     (sym last) (keeps j.spec j.base (before_of j rest) waits))
     c.go_on.ensures.keeps
 
@@ -97,14 +94,13 @@ returns-clause-counts c =
     let script = script_of c.args.script.now in
     let rest = map content_of c.in-Some-split_last.field-0-1.now in
     let answer = content_of c.in-Some-split_last.answer.now in
-    let items : map content_of c.deref-2.result.now ≡ j.answers =
-    ap (map content_of) (c.deref-2.ensures.value ∙ ap (λ v. v.items) c.deref.ensures) ∙ ap (λ (p : JobParts). p.answers) c.job.view_is in
+    let items : map content_of c.as_slice.result.now ≡ j.answers = sym c.as_slice.ensures ∙ ap (λ (p : JobParts). p.answers) c.job.view_is in
     let last : j.answers ≡ rest ++ answer ∷ [] =
     sym items ∙ ap (map content_of) c.in-Some-split_last.ensures.cases.0 ∙ map_last content_of c.in-Some-split_last.field-0-1.now c.in-Some-split_last.answer.now in
     let kept = subst (λ f. IfSome f (λ b. Fits script j b.value)) c.in-Some.is c.requires.fits in
     let fits : Fits script j c.into_inner.result = subst (Fits script j) (sym c.into_inner.ensures) kept in
     let waits = waits_last script j c.into_inner.result rest answer last fits in
     if_ok _ _ c.go_on.result
-    (λ p counts. subst (λ cs. HasSteps script j.spec j.base cs p.value.steps) (sym last)
+    (λ p counts. subst (λ cs. HasSteps script j.spec j.base cs p.steps) (sym last)
     (counts j.spec j.base (before_of j rest) (sym (c.others.ensures ∙ ap (λ (x : JobParts). others_of x.spec) c.job.view_is)) waits))
     c.go_on.ensures.counts

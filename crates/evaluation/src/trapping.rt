@@ -41,7 +41,7 @@ pub fn find_trap(
                 alloc,
                 script,
                 function.as_str(),
-                &arguments,
+                arguments.as_slice(),
                 *depth,
                 base,
                 answers,

@@ -8,7 +8,6 @@ use Rattle.meaning.specs.Kinds.{IsBirthOf, MarkedOf}
 use Rattle.meaning.specs.Meaning.{replay}
 use Rattle.kind_laws.specs.Law.{HasKinds}
 use Rattle.script_check.specs.Scripts.{IsWellTyped}
-use Rattle.evaluation.specs.Pieces as pieces
 use Rattle.segment.specs.Jobs.{JobParts, Done, IsTaskOf, IsBegun, IsTrueOf}
 use Rattle.event_log.specs.Entries.{Entry, Event, Claim, Commit, Deliver, Tick, Notice, NoticeNode, Evict, Lose, Kill, KillNode, Join}
 use Rattle.event_log.specs.Entries.{Limit, Refusal}

@@ -7,7 +7,7 @@ ghost use Rattle.meaning.specs.Values.{Id};
 ghost use Rattle.protocol_data.specs.Noted.{AreBounded, bounds, may_be_noted};
 
 use ids::{AttemptId, ObjectId};
-use sequence::Seq;
+use small_list::SmallList;
 use std::alloc::{AllocError, Global};
 use std::marker::Model;
 
@@ -19,10 +19,10 @@ fn bounds(bound: ObjectId, object: ObjectId) -> bool
 }
 
 /// Whether the object may have been noted.
-fn may_be_noted(all: &Seq<ObjectId>, object: ObjectId) -> bool
+fn may_be_noted(all: &SmallList<ObjectId>, object: ObjectId) -> bool
     ensures { result ≡ may_be_noted all.now object }
 {
-    all.items.iter().any(|b| bounds(*b, object))
+    all.as_slice().iter().any(|b| bounds(*b, object))
 }
 
 /// Whether the object is of the bound's owner, and comes behind it.
@@ -34,7 +34,7 @@ fn is_behind(bound: ObjectId, object: ObjectId) -> bool
 
 /// Raises the bound of the object's owner, so that the object is one of those that may have been noted; those noted before stay so.
 #[tactic(auto, using(crate::proofs::Bounds::noted_at, crate::proofs::Bounds::kept_at, crate::proofs::Bounds::noted_last, crate::proofs::Bounds::kept_last))]
-fn note(all: &mut Seq<ObjectId>, object: ObjectId) -> Result<(), AllocError>
+fn note(all: &mut SmallList<ObjectId>, object: ObjectId) -> Result<(), AllocError>
     ensures noted { OnOk result (may_be_noted all.new object ≡ true) }
     ensures kept { (o : Id) → may_be_noted all.old o ≡ true → may_be_noted all.new o ≡ true }
 {
@@ -57,14 +57,14 @@ fn made_object(attempt: AttemptId) -> ObjectId
     attempt.object
 }
 
-fn has_attempt(rows: &Seq<AttemptId>, attempt: AttemptId) -> bool
+fn has_attempt(rows: &SmallList<AttemptId>, attempt: AttemptId) -> bool
     ensures { result ≡ list_any (λ b. same_attempt b attempt) rows.now }
 {
-    rows.items.iter().any(|b| b.is(attempt))
+    rows.as_slice().iter().any(|b| b.is(attempt))
 }
 
 /// Whether the attempt is one of them.
-fn has_bounded(rows: &Seq<AttemptId>, all: &Seq<ObjectId>, attempt: AttemptId) -> bool
+fn has_bounded(rows: &SmallList<AttemptId>, all: &SmallList<ObjectId>, attempt: AttemptId) -> bool
     requires { AreBounded all.now rows.now }
     ensures { result ≡ list_any (λ b. same_attempt b attempt) rows.now }
 {
@@ -79,8 +79,8 @@ fn has_bounded(rows: &Seq<AttemptId>, all: &Seq<ObjectId>, attempt: AttemptId) -
 /// most are, is known to be.
 #[derive(Drop, Debug)]
 pub struct Attempts {
-    rows: Seq<AttemptId>,
-    bounds: Seq<ObjectId>,
+    rows: SmallList<AttemptId>,
+    bounds: SmallList<ObjectId>,
 }
 
 impl Model for Attempts {
@@ -107,8 +107,8 @@ impl Attempts {
         ensures { result ≡ [] }
     {
         Attempts {
-            rows: Seq::new(alloc),
-            bounds: Seq::new(alloc),
+            rows: SmallList::new(alloc),
+            bounds: SmallList::new(alloc),
         }
     }
 

@@ -1,7 +1,7 @@
 //! A list that contracts see as a list, and that needs no memory of its own while it has one item at most.
 #![tactic(auto)]
 
-ghost use Rattle.std.specs.Prelude.{◌≡◌, ◌<◌, ◌∷◌, ◌++◌, [], IfOk, OnOk, OnErr, Some, length, slice_get, take};
+ghost use Rattle.std.specs.Prelude.{◌≡◌, ◌<◌, ◌∷◌, ◌++◌, [], IfOk, OnOk, OnErr, Some, length, slice_get, slice_set, take};
 ghost use Rattle.std.specs.Mem.{FitsInMemory};
 
 use std::alloc::{AllocError, Global};
@@ -121,6 +121,17 @@ impl<T: Drop> SmallList<T> {
                 items.push_reserved(item);
                 Ok(())
             }
+        }
+    }
+
+    /// Puts an item in the place of the one that stands there.
+    pub fn set(&mut self, place: usize, item: T)
+        requires { place < length self.old }
+        ensures { self.new ≡ slice_set self.old place item }
+    {
+        match &mut self.items {
+            Items::One(only, _) => *only = item,
+            Items::Many(items) => items[place] = item,
         }
     }
 }

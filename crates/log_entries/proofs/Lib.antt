@@ -1,1 +1,1 @@
-pub use Rattle.sequence.proofs as of_sequence
+pub use Rattle.held.proofs.of_sequence as of_sequence

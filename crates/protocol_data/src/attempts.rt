@@ -7,7 +7,7 @@ ghost use Rattle.meaning.specs.Values.{Id};
 ghost use Rattle.protocol_data.specs.Noted.{AreBounded, bounds, may_be_noted};
 
 use ids::{AttemptId, ObjectId};
-use small_list::SmallList;
+use log_entries::SmallList;
 use std::alloc::{AllocError, Global};
 use std::marker::Model;
 

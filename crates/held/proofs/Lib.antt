@@ -1,0 +1,1 @@
+pub use Rattle.sequence.proofs as of_sequence

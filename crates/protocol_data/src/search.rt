@@ -12,7 +12,7 @@ ghost use Rattle.indexmap.specs.IndexMap.{index_map_len, values};
 use crate::tables::{Object, ObjectSource, Progress};
 use ids::{AttemptId, ObjectId};
 use indexmap::IndexMap;
-use small_list::SmallList;
+use log_entries::SmallList;
 
 /// Which of an owner's objects may have come to be releasable: those from `seen` on, which were never looked at, and those from `changed_from` to
 /// before `changed_to`, which were changed since. Any other one isn't released while the bearer goes on, which bore none before `own_from`.

@@ -53,6 +53,7 @@ fn tell_locations(
 
 /// Whoever waits for the own object, whose content is there now, is answered: each asker is told the locations or the kept content, in order of
 /// asking, and none of them waits any more; the own attempt, if it waits for the object, looks for it.
+#[tactic(auto, using(crate::proofs::Asked::nobody_told))]
 pub fn answer_settled(
     alloc: Global,
     here: &mut WorkerContext,
@@ -63,6 +64,10 @@ pub fn answer_settled(
     let Some(found) = object_at(here, object) else {
         return Ok(());
     };
+    // Most objects are got by their owner's attempt alone, or by none.
+    if found.askers.as_slice().is_empty() {
+        return need_own_if_waiting(alloc, here, object);
+    }
     let askers = found.askers.copy(alloc)?;
     let number = settled_number(found);
     let locations = found.locations.copy(alloc)?;

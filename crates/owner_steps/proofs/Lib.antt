@@ -1,3 +1,4 @@
+pub mod Asked
 pub mod Circles
 pub mod Each
 pub mod Plans

@@ -20,14 +20,14 @@ loop-place-preserved c =
 pub returns-in_err-content_at-clause-broken : goal.returns-in_err-content_at-clause-broken
 returns-in_err-content_at-clause-broken c =
     let all = outcomes c.args.count (Returned (map value_of c.args.values.now)) in
-    handed_on (λ (e : ConversionError). e ≡ Broken → HasBroken all) c.from_residual-in_err-content_at.result c.in_err-content_at.field-0.0 c.from_residual-in_err-content_at.ensures.1
+    handed_on (λ (e : ConversionError). e ≡ Broken → HasBroken all) c.from_residual.result c.in_err-content_at.field-0.0 c.from_residual.ensures.1
     (λ e. broken_next c.loop-place.contents (Returned (map value_of (drop c.loop-place.place c.args.values.now))) c.args.count c.loop-place.place all
     c.loop-place-test.true (c.in_err-content_at.ensures.broken e) c.loop-place.invariant)
 
 pub returns-in_err-content_at-clause-plain : goal.returns-in_err-content_at-clause-plain
 returns-in_err-content_at-clause-plain c =
     let all = outcomes c.args.count (Returned (map value_of c.args.values.now)) in
-    handed_on (λ (e : ConversionError). e ≡ HasOutcome → AreTaskOutcomes all → ⊥) c.from_residual-in_err-content_at.result c.in_err-content_at.field-0.0 c.from_residual-in_err-content_at.ensures.1
+    handed_on (λ (e : ConversionError). e ≡ HasOutcome → AreTaskOutcomes all → ⊥) c.from_residual.result c.in_err-content_at.field-0.0 c.from_residual.ensures.1
     (λ e plain. c.in_err-content_at.ensures.plain e (task_next c.loop-place.contents
     (Returned (map value_of (drop c.loop-place.place c.args.values.now))) c.args.count c.loop-place.place all c.loop-place-test.true c.loop-place.invariant plain))
 

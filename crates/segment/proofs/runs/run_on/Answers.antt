@@ -1,16 +1,14 @@
 use Rattle.std.proofs.Common.{◌≡◌, IfSome, [], ◌∷◌, ◌++◌, map, sym, ap, ◌∙◌, subst}
-use Rattle.meaning.specs.Values.{others_of}
 use Rattle.meaning.specs.Meaning.{replay}
 use Rattle.evaluation.specs.of_script_check.Trees.{script_of}
 use Rattle.values.specs.Values.{content_of}
 use Rattle.frame_laws.specs.Steps.{HasSteps}
 use Rattle.evaluation.specs.of_frames.Frames.{IsWaiting}
 use Rattle.evaluation.proofs.of_frames.Doing.{if_ok, on_err}
-use Rattle.evaluation.specs.TaskValues.{IsTaskBirth}
 use Rattle.evaluation.specs.Pieces.{IsBrokenStop}
 use Rattle.evaluation.proofs.Standing.{both_ok}
 use Rattle.evaluation.proofs.TaskRuns.{plain_contents}
-use Rattle.segment.specs.Jobs.{JobParts, replay_of, whole_of}
+use Rattle.segment.specs.Jobs.{replay_of, whole_of}
 use Rattle.segment.specs.Frames.{Fits, before_of}
 use Rattle.segment.specs.Pieces.{done_of}
 use Rattle.segment.proofs.Beyond.{whole_made}
@@ -39,7 +37,7 @@ returns-clause-whole c =
     let script = script_of c.args.script.now in
     let rest = map content_of c.in-Some-split_last.field-0-1.now in
     let answer = content_of c.in-Some-split_last.answer.now in
-    let items : map content_of c.as_slice.result.now ≡ j.answers = sym c.as_slice.ensures ∙ ap (λ (p : JobParts). p.answers) c.job.view_is in
+    let items : map content_of c.as_slice.result.now ≡ j.answers = sym c.as_slice.ensures in
     let last : j.answers ≡ rest ++ answer ∷ [] =
     sym items ∙ ap (map content_of) c.in-Some-split_last.ensures.cases.0 ∙ map_last content_of c.in-Some-split_last.field-0-1.now c.in-Some-split_last.answer.now in
     let kept = subst (λ f. IfSome f (λ b. Fits script j b.value)) c.in-Some.is c.requires.fits in
@@ -47,7 +45,7 @@ returns-clause-whole c =
     let waits = waits_last script j c.into_inner.result rest answer last fits in
     if_ok _ _ c.go_on.result
     (λ p replayed. ap (replay script j.spec j.base) last
-    ∙ sym (replayed j.spec j.base (before_of j rest) (sym (c.others.ensures ∙ ap (λ (x : JobParts). others_of x.spec) c.job.view_is)) waits))
+    ∙ sym (replayed j.spec j.base (before_of j rest) (sym c.others.ensures) waits))
     c.go_on.ensures.replayed
 
 -- it is broken only where the replay on all answers is
@@ -57,7 +55,7 @@ returns-clause-broken c =
     let script = script_of c.args.script.now in
     let rest = map content_of c.in-Some-split_last.field-0-1.now in
     let answer = content_of c.in-Some-split_last.answer.now in
-    let items : map content_of c.as_slice.result.now ≡ j.answers = sym c.as_slice.ensures ∙ ap (λ (p : JobParts). p.answers) c.job.view_is in
+    let items : map content_of c.as_slice.result.now ≡ j.answers = sym c.as_slice.ensures in
     let last : j.answers ≡ rest ++ answer ∷ [] =
     sym items ∙ ap (map content_of) c.in-Some-split_last.ensures.cases.0 ∙ map_last content_of c.in-Some-split_last.field-0-1.now c.in-Some-split_last.answer.now in
     let kept = subst (λ f. IfSome f (λ b. Fits script j b.value)) c.in-Some.is c.requires.fits in
@@ -65,8 +63,8 @@ returns-clause-broken c =
     let waits = waits_last script j c.into_inner.result rest answer last fits in
     on_err _ _ c.go_on.result
     (λ e broken is. subst (λ cs. IsBrokenStop (replay script j.spec j.base cs).stop) (sym last)
-    (broken is j.spec j.base (before_of j rest) (sym (c.others.ensures ∙ ap (λ (x : JobParts). others_of x.spec) c.job.view_is))
-    (subst IsTaskBirth (ap (λ (x : JobParts). x.spec) c.job.view_is) c.attest_spec.ensures)
+    (broken is j.spec j.base (before_of j rest) (sym c.others.ensures)
+    c.attest_spec.ensures
     (plain_contents c.in-Some-split_last.field-0-1.now) waits))
     c.go_on.ensures.broken
 
@@ -76,7 +74,7 @@ returns-clause-waits c =
     let script = script_of c.args.script.now in
     let rest = map content_of c.in-Some-split_last.field-0-1.now in
     let answer = content_of c.in-Some-split_last.answer.now in
-    let items : map content_of c.as_slice.result.now ≡ j.answers = sym c.as_slice.ensures ∙ ap (λ (p : JobParts). p.answers) c.job.view_is in
+    let items : map content_of c.as_slice.result.now ≡ j.answers = sym c.as_slice.ensures in
     let last : j.answers ≡ rest ++ answer ∷ [] =
     sym items ∙ ap (map content_of) c.in-Some-split_last.ensures.cases.0 ∙ map_last content_of c.in-Some-split_last.field-0-1.now c.in-Some-split_last.answer.now in
     let kept = subst (λ f. IfSome f (λ b. Fits script j b.value)) c.in-Some.is c.requires.fits in
@@ -94,7 +92,7 @@ returns-clause-counts c =
     let script = script_of c.args.script.now in
     let rest = map content_of c.in-Some-split_last.field-0-1.now in
     let answer = content_of c.in-Some-split_last.answer.now in
-    let items : map content_of c.as_slice.result.now ≡ j.answers = sym c.as_slice.ensures ∙ ap (λ (p : JobParts). p.answers) c.job.view_is in
+    let items : map content_of c.as_slice.result.now ≡ j.answers = sym c.as_slice.ensures in
     let last : j.answers ≡ rest ++ answer ∷ [] =
     sym items ∙ ap (map content_of) c.in-Some-split_last.ensures.cases.0 ∙ map_last content_of c.in-Some-split_last.field-0-1.now c.in-Some-split_last.answer.now in
     let kept = subst (λ f. IfSome f (λ b. Fits script j b.value)) c.in-Some.is c.requires.fits in
@@ -102,5 +100,5 @@ returns-clause-counts c =
     let waits = waits_last script j c.into_inner.result rest answer last fits in
     if_ok _ _ c.go_on.result
     (λ p counts. subst (λ cs. HasSteps script j.spec j.base cs p.steps) (sym last)
-    (counts j.spec j.base (before_of j rest) (sym (c.others.ensures ∙ ap (λ (x : JobParts). others_of x.spec) c.job.view_is)) waits))
+    (counts j.spec j.base (before_of j rest) (sym c.others.ensures) waits))
     c.go_on.ensures.counts

@@ -79,13 +79,29 @@ impl AttemptStates {
         }
         "open"
     }
+
+    /// The word for an attempt's state, as the end of its line.
+    fn line_end(&self, attempt: AttemptId) -> &'static str
+        ensures { (log : List logged.Entry) → AreStatesOf self.now log → result.now ≡ codes " " ++ (state_of log attempt ++ codes "\n") }
+    {
+        if self.accepted.has(attempt) {
+            return " accepted\n";
+        }
+        if self.ended.has(attempt) {
+            return " ended\n";
+        }
+        if self.faulted.has(attempt) {
+            return " faulted\n";
+        }
+        " open\n"
+    }
 }
 
-/// Writes `a1.1#0`.
-fn write_id(text: &mut String, attempt: AttemptId) -> Result<(), AllocError>
-    ensures { OnOk result (string_bytes text.new ≡ string_bytes text.old ++ attempt_text attempt) }
+/// Writes `attempt a1.1#0`.
+fn write_head(text: &mut String, attempt: AttemptId) -> Result<(), AllocError>
+    ensures { OnOk result (string_bytes text.new ≡ string_bytes text.old ++ (codes "attempt " ++ attempt_text attempt)) }
 {
-    text.push('a')?;
+    text.push_str("attempt a")?;
     write_number(text, u64::from(attempt.object.owner.0))?;
     text.push('.')?;
     write_number(text, attempt.object.serial)?;
@@ -93,32 +109,27 @@ fn write_id(text: &mut String, attempt: AttemptId) -> Result<(), AllocError>
     write_number(text, u64::from(attempt.number))
 }
 
-/// Writes ` w2 accepted` and a line feed, with that word.
-fn write_end(text: &mut String, worker: WorkerId, state: &str) -> Result<(), AllocError>
-    ensures { OnOk result (string_bytes text.new
-        ≡ string_bytes text.old ++ (codes " w" ++ (decimal worker ++ (codes " " ++ (state.now ++ codes "\n"))))) }
+/// Writes ` w2`, and the end of the line.
+fn write_tail(text: &mut String, worker: WorkerId, end: &str) -> Result<(), AllocError>
+    ensures { OnOk result (string_bytes text.new ≡ string_bytes text.old ++ (codes " w" ++ (decimal worker ++ end.now))) }
 {
-    text.push(' ')?;
-    text.push('w')?;
+    text.push_str(" w")?;
     write_number(text, u64::from(worker.0))?;
-    text.push(' ')?;
-    text.push_str(state)?;
-    text.push('\n')
+    text.push_str(end)
 }
 
-/// Writes `attempt a1.1#0 w2 accepted`, with that word for the attempt's state. Its pieces are written one by one: a format costs twice as much.
+/// Writes `attempt a1.1#0 w2 accepted`, with that end of the line. Its pieces are written one by one: a format costs twice as much.
 fn write_line(
     text: &mut String,
     attempt: AttemptId,
     worker: WorkerId,
-    state: &str,
+    end: &str,
 ) -> Result<(), AllocError>
-    ensures { (log : List logged.Entry) → state.now ≡ state_of log attempt → OnOk result
+    ensures { (log : List logged.Entry) → end.now ≡ codes " " ++ (state_of log attempt ++ codes "\n") → OnOk result
         (string_bytes text.new ≡ string_bytes text.old ++ attempt_line log attempt worker) }
 {
-    text.push_str("attempt ")?;
-    write_id(text, attempt)?;
-    write_end(text, worker, state)
+    write_head(text, attempt)?;
+    write_tail(text, worker, end)
 }
 
 /// Writes a line where the entry begins another attempt than main's.
@@ -136,5 +147,5 @@ pub fn write_attempt(
     if is_main(*attempt) {
         return Ok(());
     }
-    write_line(text, *attempt, *worker, states.name(*attempt))
+    write_line(text, *attempt, *worker, states.line_end(*attempt))
 }

@@ -1,6 +1,6 @@
 // Numbers in decimal, digit by digit: a format costs several times as much.
 
-ghost use Rattle.std.specs.Prelude.{◌≡◌, ◌<◌, ◌++◌, OnOk, string_bytes};
+ghost use Rattle.std.specs.Prelude.{◌≡◌, ◌<◌, ◌≤◌, ◌++◌, OnOk, string_bytes};
 ghost use Rattle.std.specs.Fmt.{decimal};
 
 use std::alloc::AllocError;
@@ -15,6 +15,17 @@ fn write_digit(text: &mut String, number: u64) -> Result<(), AllocError>
     text.push(char::from(b'0' + number as u8))
 }
 
+/// Writes a number of two digits.
+#[inline(always)]
+fn write_two(text: &mut String, number: u64) -> Result<(), AllocError>
+    requires some { 10 ≤ number }
+    requires few { number < 100 }
+    ensures { OnOk result (string_bytes text.new ≡ string_bytes text.old ++ decimal number) }
+{
+    write_digit(text, number / 10)?;
+    write_digit(text, number % 10)
+}
+
 /// Writes a number of any length.
 #[inline(never)]
 fn write_long(text: &mut String, number: u64) -> Result<(), AllocError>
@@ -22,6 +33,9 @@ fn write_long(text: &mut String, number: u64) -> Result<(), AllocError>
 {
     if number < 10 {
         return write_digit(text, number);
+    }
+    if number < 100 {
+        return write_two(text, number);
     }
     write_long(text, number / 10)?;
     write_digit(text, number % 10)

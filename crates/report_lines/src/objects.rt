@@ -27,8 +27,7 @@ pub fn write_release(text: &mut String, entry: &Entry) -> Result<(), AllocError>
     let Entry::Released(object) = entry else {
         return Ok(());
     };
-    text.push_str("released ")?;
-    text.push('o')?;
+    text.push_str("released o")?;
     write_number(text, u64::from(object.owner.0))?;
     text.push('.')?;
     write_number(text, object.serial)?;

@@ -11,5 +11,5 @@ returns t c =
     let old = string_bytes c.args.text.now in
     on_ok c.write_digit-2.result
     (λ h. h ∙ ap (λ b. b ++ decimal (n % 10)) c.in_ok-write_long.ensures ∙ append_assoc old (decimal (n / 10)) (decimal (n % 10))
-    ∙ ap (λ b. old ++ b) (sym (one_more n (omega (arith, c.if-number-lt10.false)) c.ranges.number.fits)))
+    ∙ ap (λ b. old ++ b) (sym (one_more n (omega (arith, c.if-number-lt100.false)) c.ranges.number.fits)))
     c.write_digit-2.ensures

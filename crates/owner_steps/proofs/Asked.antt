@@ -1,11 +1,12 @@
 -- An object for which nobody else waits.
-use Rattle.std.proofs.Common.{◌≡◌, ℕ, zero, suc, List, [], ◌∷◌, Some, refl, sym, ap, ◌∙◌}
-use Rattle.std.specs.Prelude.{slice_get, slice_set}
+use Rattle.std.proofs.Common.{◌≡◌, ℕ, zero, suc, true, false, ◌==◌, List, [], ◌∷◌, length, Option, Some, None, refl, sym, ap, ◌∙◌, arith}
+use Rattle.std.proofs.lemmas.Bool.Decides.{nat_tests}
+use Rattle.std.specs.Prelude.{Bool, if◌then◌else◌, slice_get, slice_set}
 use Rattle.meaning.specs.Values.{Id}
 use Rattle.protocol.specs.Numbered.{changed_at, changed_by, item_at}
 use Rattle.protocol.specs.Tables.{without_askers}
-use Rattle.protocol.specs.Steps.{changes, with_worker}
-use Rattle.protocol.specs.Locations.{tells_locations}
+use Rattle.protocol.specs.Steps.{changes, is_own, object_at, own_object, with_worker}
+use Rattle.protocol.specs.Locations.{answers_settled, answers_settled_by, needs_own_if_waiting, tells_locations}
 use Rattle.protocol_data.specs.declared.tables.Object.{Object}
 use Rattle.protocol_data.specs.declared.tables.WorkerContext.{WorkerContext}
 
@@ -28,3 +29,21 @@ pub nobody_told : (h : WorkerContext) (o : Id) (x : Object) → item_at h.worker
 nobody_told h o x g e =
     ap (λ ws. tells_locations (changes h o without_askers) ws o x) e
     ∙ ap (λ xs. with_worker h (record h.worker { objects = xs })) (none_ask h.worker.objects o.serial x g e)
+
+empty_so : {X : Type 0} (xs : List X) → true ≡ (length xs == 0) → xs ≡ []
+empty_so [] e = refl
+empty_so (x ∷ xs) e = absurd (true-not-false (e ∙ suc-not-zero (length xs)))
+  where
+    suc-not-zero : (n : ℕ) → (suc n == zero) ≡ false
+    suc-not-zero n = grind (arith, nat_tests)
+    true-not-false : true ≡ false → ⊥
+    true-not-false h = cc
+
+own_then : (b : Bool) (y : Option Object) (x : Object) → (if b then y else None) ≡ Some x → y ≡ Some x
+own_then true y x e = e
+own_then false y x e = absurd cc
+
+-- of an object that no one else asked for the own attempt alone is answered
+pub own_alone : (h : WorkerContext) (o : Id) (x : Object) → object_at h o ≡ Some x → true ≡ (length x.askers == 0) → needs_own_if_waiting h o ≡ answers_settled h o
+own_alone h o x at none =
+    sym (ap (answers_settled_by h o) at ∙ ap (λ g. needs_own_if_waiting g o) (nobody_told h o x (own_then (is_own h o) (own_object h o.serial) x at) (empty_so x.askers none)))

@@ -53,7 +53,6 @@ fn tell_locations(
 
 /// Whoever waits for the own object, whose content is there now, is answered: each asker is told the locations or the kept content, in order of
 /// asking, and none of them waits any more; the own attempt, if it waits for the object, looks for it.
-#[tactic(auto, using(crate::proofs::Asked::nobody_told))]
 pub fn answer_settled(
     alloc: Global,
     here: &mut WorkerContext,

@@ -36,6 +36,7 @@ empty_so (x ∷ xs) e = absurd (true-not-false (e ∙ suc-not-zero (length xs)))
   where
     suc-not-zero : (n : ℕ) → (suc n == zero) ≡ false
     suc-not-zero n = grind (arith, nat_tests)
+
     true-not-false : true ≡ false → ⊥
     true-not-false h = cc
 

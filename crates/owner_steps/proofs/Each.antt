@@ -1,5 +1,5 @@
 -- What is done with each object of a task.
-use Rattle.std.proofs.Common.{◌≡◌, ℕ, ◌+◌, ◌-◌, Bool, true, if◌then◌else◌, List, Some, sym, ap, ◌∙◌, arith}
+use Rattle.std.proofs.Common.{◌≡◌, ℕ, ◌+◌, ◌-◌, true, if◌then◌else◌, List, Some, sym, ap, ◌∙◌, arith}
 use Rattle.meaning.specs.Values.{Id, results_of}
 use Rattle.event_log.specs.Entries.{Accepted, Attempt, Fault}
 use Rattle.protocol.specs.Messages.{EndedResult}

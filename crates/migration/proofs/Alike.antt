@@ -13,7 +13,7 @@ use Rattle.protocol.specs.Jobs.{AtEnd, AtGet, CommitInput, Job, OfJob, Outcomes,
 use Rattle.protocol.specs.Cluster.{ClusterState}
 use Rattle.protocol.specs.Answers.{Answer, answer, logged, whole_after}
 use Rattle.protocol.specs.Answers as answers
-use Rattle.seats.specs.of_protocol_board.Cores.{work_of}
+use Rattle.seats.specs.of_protocol_board.Cores.{outcomes_in}
 use Rattle.seats.specs.of_protocol_board.Cores.{RunState}
 use Rattle.seats.specs.of_protocol_board.Cores.{Follows, GivesThat, IsApplied, IsHanded, IsHandedFor, IsOut, Reply, Tells}
 use Rattle.seats.specs.of_protocol_board.Replays.{AllPlay, IsDoneOn, Play, PlaysHistory, Step, found_no_memory, job_at, job_for, left_by, next_line, with_given}
@@ -48,7 +48,7 @@ outcomes : (a b : List Birth) (c d : List Value) (s t : Stopped) → a ≡ b →
 outcomes a b c d s t e f g = cc
 
 one_work : (script : Script) (d f : Done) → d.job ≡ f.job → IsTrueOf script d → IsTrueOf script f →
-    work_of d.births d.prints d.stop ≡ work_of f.births f.prints f.stop
+    outcomes_in d ≡ outcomes_in f
 one_work script d f same is others =
     let again : replay_of script d.job ≡ replay_of script f.job = ap (λ (j : Job). replay script j.spec j.base j.answers) same in
     let whole : whole_of d ≡ whole_of f = sym is ∙ again ∙ others in

@@ -12,7 +12,7 @@ use Rattle.segment.specs.Jobs.{JobParts, Done, IsTaskOf, IsBegun, IsTrueOf}
 use Rattle.event_log.specs.Entries.{Entry, Event, Claim, Commit, Deliver, Tick, Notice, NoticeNode, Evict, Lose, Kill, KillNode, Join}
 use Rattle.event_log.specs.Entries.{Limit, Refusal}
 use Rattle.event_log.specs.Words.{answers_of}
-use Rattle.protocol_core.specs.Work.{work_of}
+use Rattle.segment.specs.Pieces.{outcomes_in}
 use Rattle.protocol.specs.Answers.{Refuses, answer, decided, given_out, job_of, limited, takes}
 use Rattle.protocol.specs.Events.{happens}
 use Rattle.protocol.specs.Jobs.{JobRecord, CommitInput, Job, Nothing, OfAnother, OfJob, Outcomes}
@@ -139,7 +139,7 @@ abbrev IsTrueOn : Script → Job → Outcomes → Type 0
 IsTrueOn script job d =
     replay script job.spec job.base job.answers ≡ record { births = job.births ++ d.births; prints = job.prints ++ d.prints; stop = jobs.stop_of d.stop }
 
-true_on : (script : Script) (d : Done) → IsTrueOf script d → IsTrueOn script d.job (work_of d.births d.prints d.stop)
+true_on : (script : Script) (d : Done) → IsTrueOf script d → IsTrueOn script d.job (outcomes_in d)
 true_on script d h = h
 
 -- one attempt is out as that job
@@ -152,10 +152,10 @@ one_out c j run out g x other given worker runs =
     some_of : {X : Type 0} (a b : X) → Some a ≡ Some b → a ≡ b
     some_of a b e = cc
 
-right_job : (script : Script) (nodes : ℕ) (c : ClusterState) (j : ℕ) (d : Done) → IsTrueOf script d → IsOut c j d.job → IsRight (beside script nodes []) c (Commit j) (OfJob (work_of d.births d.prints d.stop))
+right_job : (script : Script) (nodes : ℕ) (c : ClusterState) (j : ℕ) (d : Done) → IsTrueOf script d → IsOut c j d.job → IsRight (beside script nodes []) c (Commit j) (OfJob (outcomes_in d))
 right_job script nodes c j d is_true out g x run given worker runs is_out =
     let same : d.job ≡ job_of j run = out.2 ∙ ap (λ r. job_of j r) (one_out c j out.0 out.1 g x run given worker runs) in
-    subst (λ job. IsTrueOn script job (work_of d.births d.prints d.stop)) same (true_on script d is_true)
+    subst (λ job. IsTrueOn script job (outcomes_in d)) same (true_on script d is_true)
 
 right_for : (script : Script) (nodes : ℕ) (c : ClusterState) (j : ℕ) (d : Option Done) (h : CommitInput) → IsHanded c (Commit j) d h → IfSome d (λ x. IsTrueOf script x) → IsRight (beside script nodes []) c (Commit j) h
 right_for script nodes c j None h e is_true = subst (λ x. IsRight (beside script nodes []) c (Commit j) x) (sym e) tt

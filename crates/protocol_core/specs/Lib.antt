@@ -9,6 +9,5 @@ pub mod SameJobs
 pub mod States
 pub mod Steps
 pub mod Views
-pub mod Work
 pub use Rattle.count_laws.specs as of_count_laws
 pub use Rattle.count_laws.specs.of_protocol_laws as of_protocol_laws

@@ -6,7 +6,7 @@ use Rattle.event_log.specs.Causes.{shown}
 use Rattle.event_log.specs.Entries.{Commit, Event}
 use Rattle.log_entries.specs.declared.refusal.Refusal.{Refusal}
 use Rattle.log_entries.specs.declared.refusal.Refusal.TheVariants as refusals
-use Rattle.protocol_core.specs.Work.{work_of}
+use Rattle.segment.specs.Pieces.{outcomes_in}
 use Rattle.protocol.specs.Answers.{Answer, answer, job_of, logged, whole_after}
 use Rattle.protocol.specs.Answers as answers
 use Rattle.protocol.specs.Jobs.{JobRecord, CommitInput, Job, Nothing, OfAnother, OfJob}
@@ -36,7 +36,7 @@ IsOut c j job = (run : Execution) × IsOutAs c j run × (job ≡ job_of j run)
 abbrev pub IsHandedFor : ClusterState → ℕ → Option Done → CommitInput → Type 0
 IsHandedFor c j None handed = handed ≡ Nothing
 IsHandedFor c j (Some d) handed =
-    ((handed ≡ OfJob (work_of d.births d.prints d.stop)) × IsOut c j d.job) ⊎ ((handed ≡ OfAnother) × (IsOut c j d.job → ⊥))
+    ((handed ≡ OfJob (outcomes_in d)) × IsOut c j d.job) ⊎ ((handed ≡ OfAnother) × (IsOut c j d.job → ⊥))
 
 -- what is handed in with an event: with any but a commit nothing
 abbrev pub IsHanded : ClusterState → Event → Option Done → CommitInput → Type 0

@@ -10,7 +10,7 @@ use Rattle.segment.specs.Jobs.{Done, IsTrueOf, JobParts}
 use Rattle.event_log.specs.Entries.{Commit, Event}
 use Rattle.event_log.specs.Entries.{NoJob, Stale}
 use Rattle.event_log.specs.Rules.{Setting}
-use Rattle.migration.specs.of_protocol_board.Cores.{work_of}
+use Rattle.migration.specs.of_protocol_board.Cores.{outcomes_in}
 use Rattle.protocol.specs.Answers.{job_of}
 use Rattle.protocol.specs.Events.{is_live_worker}
 use Rattle.protocol.specs.Jobs.{JobRecord, CommitInput, Job, Nothing, OfAnother, OfJob, Outcomes}
@@ -29,15 +29,15 @@ abbrev IsTrueOn : Script → Job → Outcomes → Type 0
 IsTrueOn script job d =
     replay script job.spec job.base job.answers ≡ record { births = job.births ++ d.births; prints = job.prints ++ d.prints; stop = jobs.stop_of d.stop }
 
-true_on : (script : Script) (d : Done) → IsTrueOf script d → IsTrueOn script d.job (work_of d.births d.prints d.stop)
+true_on : (script : Script) (d : Done) → IsTrueOf script d → IsTrueOn script d.job (outcomes_in d)
 true_on script d h = h
 
 right_job : (s : Setting) (c : ClusterState) (j : ℕ) (d : Done) → IsTrueOf s.script d → IsOut c j d.job →
-    IsRight s c (Commit j) (OfJob (work_of d.births d.prints d.stop))
+    IsRight s c (Commit j) (OfJob (outcomes_in d))
 right_job s c j d is_true out g x run given worker runs is_out =
     let there : IsOut c j (job_of j run) =
     (run, record { given = g; worker = x; was_given = given; of_worker = worker; runs = runs; is_out = is_out }, refl) in
-    subst (λ job. IsTrueOn s.script job (work_of d.births d.prints d.stop)) (one_is_out c j d.job (job_of j run) out there)
+    subst (λ job. IsTrueOn s.script job (outcomes_in d)) (one_is_out c j d.job (job_of j run) out there)
     (true_on s.script d is_true)
 
 right_for : (s : Setting) (c : ClusterState) (j : ℕ) (d : Option Done) (h : CommitInput) → IsHandedFor c j d h → IsTrueDone s.script d → IsRight s c (Commit j) h

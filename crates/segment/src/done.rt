@@ -4,7 +4,7 @@ ghost use Rattle.std.specs.Prelude.{◌≡◌, IfSome};
 ghost use Rattle.evaluation.specs.Pieces.{piece_of};
 ghost use Rattle.segment.specs.Jobs.{IsTrueOf, HasStepsOf};
 ghost use Rattle.segment.specs.Frames.{WaitsAfter};
-ghost use Rattle.segment.specs.Pieces.{done_of};
+ghost use Rattle.segment.specs.Pieces.{done_of, outcomes_in};
 
 use crate::job::Job;
 use crate::script_name::ScriptName;
@@ -37,7 +37,7 @@ impl<S: ScriptName> Model for Done<S> {
     ghost use Rattle.std.specs.Prelude.{IfSome};
     ghost use Rattle.segment.specs.Jobs.{Done, IsTrueOf, HasStepsOf};
     ghost use Rattle.segment.specs.Frames.{WaitsAfter};
-    ghost use Rattle.segment.specs.Pieces.{done_of};
+    ghost use Rattle.segment.specs.Pieces.{done_of, outcomes_in};
 
     ghost Value = { Done };
 
@@ -108,9 +108,7 @@ impl<S: ScriptName> Done<S> {
     /// The job, and what was done on it.
     pub fn into_parts(self) -> DoneParts<S>
         ensures job { result.job ≡ self.job }
-        ensures births { result.outcomes.births ≡ self.births }
-        ensures prints { result.outcomes.prints ≡ self.prints }
-        ensures stop { result.outcomes.stop ≡ self.stop }
+        ensures outcomes { result.outcomes ≡ outcomes_in self }
         ensures is_true { IsTrueOf S.script self }
     {
         let Done { job, piece } = self;

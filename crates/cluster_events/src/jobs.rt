@@ -38,7 +38,7 @@ fn add_job(whole: &mut ClusterState, worker: WorkerId) -> Result<(), AllocError>
 }
 
 /// The worker's attempt is given out as the next job.
-#[inline(never)]
+#[inline(always)]
 pub fn claim(
     alloc: Global,
     whole: &mut ClusterState,

@@ -62,7 +62,7 @@ plain_arguments (a ∷ args) = (plain_value a.value, plain_arguments args)
 
 pub plain_birth : (b : TBirth) → IsTaskBirth (birth_of b)
 plain_birth (births.Put v) = plain_value v
-plain_birth (births.Task g args d k others) = plain_arguments args.items
+plain_birth (births.Task g args d k others) = plain_arguments args
 
 plain_content : (c : Content) → IsTaskOutcome (tasks.content_of c)
 plain_content (contents.Value v) = plain_value v

@@ -175,12 +175,12 @@ pub(crate) fn to_values(alloc: Global, values: &[Value]) -> Result<Vec<RunValue>
 fn to_arguments(
     alloc: Global,
     arguments: &[MarkedArgument],
-) -> Result<Vec<task_spec::Argument>, ConversionError>
-    ensures value { IfOk result (λ args. map task_argument args.items ≡ map argument_of arguments.now) }
+) -> Result<SmallList<task_spec::Argument>, ConversionError>
+    ensures value { IfOk result (λ args. map task_argument args ≡ map argument_of arguments.now) }
     ensures kind { IfErr result (λ e. e ≡ ConversionError.Broken → ⊥) }
     ensures plain { IfErr result (λ e. e ≡ ConversionError.HasOutcome → AreTaskArguments (map argument_of arguments.now) → ⊥) }
 {
-    let mut copies = Vec::with_capacity(alloc, arguments.len())?;
+    let mut copies = SmallList::new(alloc);
     for argument in arguments {
         let value = to_value(alloc, &argument.value)?;
         copies.push(task_spec::Argument {
@@ -224,7 +224,7 @@ fn to_birth(alloc: Global, made: Made) -> Result<SharedBirth, ConversionError>
             retries,
             others,
         } => {
-            let arguments = to_arguments(alloc, &arguments)?;
+            let arguments = to_arguments(alloc, arguments.as_slice())?;
             Ok(SharedBirth::new(
                 alloc,
                 Birth::Task {

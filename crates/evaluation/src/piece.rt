@@ -263,7 +263,7 @@ pub fn run_piece(
             retries: _,
             others,
         } => {
-            let arguments = from_arguments(alloc, arguments)?;
+            let arguments = from_arguments(alloc, arguments.as_slice())?;
             let answers = from_contents(alloc, answers)?;
             let attempt = run_task(
                 alloc,

@@ -35,7 +35,7 @@ pub fn find_trap(
             retries: _,
             others: _,
         } => {
-            let arguments = from_arguments(alloc, arguments)?;
+            let arguments = from_arguments(alloc, arguments.as_slice())?;
             let answers = from_contents(alloc, answers)?;
             find_own_trap(
                 alloc,

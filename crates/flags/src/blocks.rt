@@ -42,11 +42,9 @@ fn take_last(flags: &mut Seq<bool>)
 fn is_any_up(flags: &Seq<bool>, place: usize) -> bool
     ensures { result ≡ false → NoneIsUp flags.now place }
 {
-    let block = place / FLAGS_OF_A_BLOCK;
-    for other in place - place % FLAGS_OF_A_BLOCK..flags.len() {
-        if other / FLAGS_OF_A_BLOCK != block {
-            return false;
-        }
+    let first = place - place % FLAGS_OF_A_BLOCK;
+    let end = flags.len().min(first.saturating_add(FLAGS_OF_A_BLOCK));
+    for other in first..end {
         if *flags.get(other) {
             return true;
         }

@@ -1,6 +1,7 @@
 // Instructions that ask or tell something outside.
 
 ghost use Rattle.std.specs.Prelude.{◌≡◌, ◌+◌, ◌-◌, ℕ, IfOk, map, false, slice_index_or, string_bytes, vec_len};
+ghost use Rattle.std.specs.Arc.{arc_value};
 ghost use Rattle.meaning.specs.Values.{Task};
 ghost use Rattle.meaning.specs.Meaning.{mark};
 ghost use Rattle.frame_laws.specs.Instructions.{PutIn, Fetch, Show};
@@ -15,7 +16,9 @@ use crate::registers::State;
 use crate::value::Value;
 use crate::working::registers_from;
 use frame_code::{Operand, Spawn};
+use small_list::SmallList;
 use std::alloc::{AllocError, Global};
+use std::sync::Arc;
 
 /// The mark of the argument at a place; there is none past the end.
 fn mark_at(marks: &[bool], place: usize) -> bool
@@ -28,10 +31,14 @@ fn mark_at(marks: &[bool], place: usize) -> bool
 }
 
 /// The arguments of a remote call, each with its mark.
-fn mark(alloc: Global, values: &[Value], marks: &[bool]) -> Result<Vec<MarkedArgument>, AllocError>
-    ensures { IfOk result (λ args. map argument_of args.items ≡ mark (map value_of values.now) marks.now) }
+fn mark(
+    alloc: Global,
+    values: &[Value],
+    marks: &[bool],
+) -> Result<SmallList<MarkedArgument>, AllocError>
+    ensures { IfOk result (λ args. map argument_of args ≡ mark (map value_of values.now) marks.now) }
 {
-    let mut arguments = Vec::with_capacity(alloc, values.len())?;
+    let mut arguments = SmallList::new(alloc);
     for value in values {
         let is_dereferenced = mark_at(marks, arguments.len());
         let value = value.share()?;
@@ -54,14 +61,14 @@ impl State {
 
     /// The task that a remote call makes.
     fn task(&self, limit: usize, spawn: &Spawn) -> Result<Made, AllocError>
-        ensures { IfOk result (λ m. made_of m ≡ Task (string_bytes spawn.now.function)
+        ensures { IfOk result (λ m. made_of m ≡ Task (string_bytes (arc_value spawn.now.function))
             (mark (values_at (map value_of self.now.registers.items) (self.now.base + spawn.now.first) spawn.now.count) spawn.now.marks.items)
             (33 - (limit - vec_len self.now.callers)) spawn.now.retries spawn.now.others) }
     {
         let alloc = *self.registers.allocator();
         let values = registers_from(&self.registers, self.place(spawn.first), spawn.count);
         let arguments = mark(alloc, values, &spawn.marks)?;
-        let function = spawn.function.clone()?;
+        let function = Arc::try_clone(&spawn.function)?;
         Ok(Made::Task {
             function,
             arguments,

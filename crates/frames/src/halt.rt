@@ -2,7 +2,9 @@
 ghost use Rattle.std.specs.Prelude.{◌≡◌};
 
 use crate::value::Value;
+use small_list::SmallList;
 use std::alloc::{AllocError, AllocFailed, Global};
+use std::sync::Arc;
 use values::Trap;
 
 /// An argument of a remote call, and whether it is dereferenced before the body.
@@ -20,8 +22,8 @@ pub enum Made {
     Put(Value),
     /// The objects of a remote call, one for each of its results.
     Task {
-        function: String,
-        arguments: Vec<MarkedArgument>,
+        function: Arc<String>,
+        arguments: SmallList<MarkedArgument>,
         depth: u32,
         retries: u8,
         others: u8,

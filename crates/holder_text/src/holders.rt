@@ -79,7 +79,7 @@ fn write_note(
             arguments,
             ..
         } => {
-            let in_argument = is_argument(alloc, arguments, object)?;
+            let in_argument = is_argument(alloc, arguments.as_slice(), object)?;
             write_way(text, function.as_str(), in_argument)
         }
     }

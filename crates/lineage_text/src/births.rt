@@ -30,7 +30,7 @@ fn write_label(text: &mut String, contents: Contents, birth: &Birth) -> Result<(
             function,
             arguments,
             ..
-        } => write_call(text, contents, function.as_str(), arguments),
+        } => write_call(text, contents, function.as_str(), arguments.as_slice()),
     }
 }
 
@@ -86,7 +86,7 @@ fn write_edges(
             let named = ids_of(alloc, value)?;
             write_named_edges(text, object, &named)
         }
-        Birth::Task { arguments, .. } => write_arguments(alloc, text, object, arguments),
+        Birth::Task { arguments, .. } => write_arguments(alloc, text, object, arguments.as_slice()),
     }
 }
 

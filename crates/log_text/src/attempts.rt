@@ -44,7 +44,7 @@ fn write_call_of(
         return Ok(());
     };
     text.push_str(": ")?;
-    write_call(text, contents, function.as_str(), arguments)
+    write_call(text, contents, function.as_str(), arguments.as_slice())
 }
 
 fn write_again(text: &mut String, number: u32) -> Result<(), AllocError>

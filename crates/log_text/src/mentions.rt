@@ -57,7 +57,7 @@ pub fn is_in_birth(alloc: Global, object: ObjectId, birth: &Birth) -> Result<boo
             let ids = ids_of(alloc, value)?;
             Ok(is_among(object, &ids))
         }
-        Birth::Task { arguments, .. } => is_in_arguments(alloc, object, arguments),
+        Birth::Task { arguments, .. } => is_in_arguments(alloc, object, arguments.as_slice()),
     }
 }
 

@@ -13,7 +13,9 @@ ghost use Rattle.log_words.specs.Index.{birth_in, found, is_born_in, AreIndexed,
 use ids::ObjectId;
 use indexmap::IndexMap;
 use log_entries::Entry;
+use small_list::SmallList;
 use std::alloc::{AllocError, Global};
+use std::sync::Arc;
 use task_spec::Birth;
 
 /// The births of a log by their first objects, main's with them.
@@ -84,10 +86,10 @@ fn birth_in(log: &[Entry], place: usize) -> Option<&Birth>
 fn main_birth(alloc: Global) -> Result<Birth, AllocError>
     ensures { IfOk result (λ b. birth_of b ≡ main_birth) }
 {
-    let function = String::from_str(alloc, "main")?;
+    let function = Arc::new(alloc, String::from_str(alloc, "main")?)?;
     Ok(Birth::Task {
         function,
-        arguments: Vec::new(alloc),
+        arguments: SmallList::new(alloc),
         depth: 0,
         retries: 0,
         others: 0,

@@ -91,7 +91,7 @@ pub fn write_birth(text: &mut String, contents: Contents, birth: &Birth) -> Resu
             ..
         } => {
             write!(text, "remote({retries}) ")?;
-            write_call(text, contents, function.as_str(), arguments)
+            write_call(text, contents, function.as_str(), arguments.as_slice())
         }
     }
 }

@@ -20,6 +20,18 @@ use sequence::Seq;
 use std::alloc::{AllocError, Global};
 use std::marker::Model;
 
+/// For how many events the counts of messages and the lines have room from the start: a list that grows is copied.
+const EVENTS: usize = 4096;
+
+/// The empty list; there is room for some numbers where there is memory for it.
+fn no_numbers(alloc: Global) -> Seq<usize>
+    ensures { result ≡ [] }
+{
+    let mut numbers = Seq::new(alloc);
+    let _ = numbers.items.reserve(EVENTS);
+    numbers
+}
+
 /// A run to which the events of a file are applied, one after the other. With the first commit of a job comes what was done on it, and
 /// with every other event nothing.
 #[derive(Drop)]
@@ -69,9 +81,9 @@ impl<S: ScriptName> Replay<S> {
             jobs: Seq::new(alloc),
             frames: Frames::new(alloc),
             applied: 0,
-            sent: Seq::new(alloc),
+            sent: no_numbers(alloc),
             begun: 0,
-            lines: Seq::new(alloc),
+            lines: no_numbers(alloc),
         }
     }
 

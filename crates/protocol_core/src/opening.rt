@@ -14,6 +14,7 @@ use protocol_data::{
 };
 use sequence::Seq;
 use std::alloc::{AllocError, Global};
+use std::sync::Arc;
 use task_spec::Birth;
 use worker_steps::main_attempt;
 
@@ -54,10 +55,10 @@ fn give_driver_a_slot(alloc: Global, nodes: &mut Seq<Boxed<Node>>) -> Result<(),
 fn main_task(alloc: Global) -> Result<SharedBirth, AllocError>
     ensures { IfOk result (λ spec. spec ≡ main_birth) }
 {
-    let function = String::from_str(alloc, "main")?;
+    let function = Arc::new(alloc, String::from_str(alloc, "main")?)?;
     let birth = Birth::Task {
         function,
-        arguments: Vec::new(alloc),
+        arguments: SmallList::new(alloc),
         depth: 0,
         retries: 0,
         others: 0,

@@ -17,6 +17,15 @@ module _ {X : Type 0} where
       by_suc (y ∷ xs) zero = refl
       by_suc (y ∷ xs) (suc n) = by_suc xs n
 
+  none_left : (xs : List X) (n : ℕ) → length xs ≤ n → [] ≡ drop n xs
+  none_left [] zero l = refl
+  none_left [] (suc n) l = refl
+  none_left (y ∷ xs) zero l = absurd (omega (arith, l))
+  none_left (y ∷ xs) (suc n) l = none_left xs n (omega (arith, l))
+
+  pub all_gone : (xs : List X) (n : ℕ) → n + 1 ≡ length xs → [] ≡ drop 1 (drop n xs)
+  all_gone xs n l = none_left xs (n + 1) (omega (arith, l)) ∙ drop_more xs n
+
   not_none : (xs : List X) (x : X) → [] ≡ xs ++ x ∷ [] → ⊥
   not_none [] x e = cc
   not_none (y ∷ xs) x e = cc

@@ -1,17 +1,17 @@
 -- Objects that are kept under their serials: the next serial is a new key, and what is lent by its place keeps its serial.
-use Rattle.std.proofs.Common.{◌≡◌, ℕ, Option, zero, suc, ◌+◌, ◌<◌, ◌≤◌, ◌⊎◌, inl, inr, ◌∷◌, ◌++◌, [], false, List, Some, None, refl, sym, ap, subst, ◌∙◌, arith, cond, length, nat_eq}
+use Rattle.std.proofs.Common.{◌≡◌, ℕ, zero, suc, ◌+◌, ◌<◌, ◌≤◌, inl, inr, ◌∷◌, ◌++◌, [], Bool, true, false, List, Some, None, refl, sym, ap, subst, ◌∙◌, arith, cond, length, nat_eq}
 use Rattle.std.proofs.lemmas.Bool.Decides.{nat_tests}
-use Rattle.std.proofs.lemmas.List.{length-map, map-append}
+use Rattle.std.proofs.lemmas.List.{length-map, length-append, map-append}
 use Rattle.std.specs.Prelude.{slice_get, slice_set}
 use Rattle.std.specs.Map.{keys_of, lookup, values_of}
 use Rattle.indexmap.specs.IndexMap.{IndexMap, get, index_map_len, insert_entry, keys, set_value_at, values, with_value_at}
 use Rattle.indexmap.proofs.CallerLemmas.{insert_entry-new, keys-with_value_at}
 use Rattle.sequence.proofs.Places.{slice_get-push_cases}
-use Rattle.event_log.specs.Entries.{Attempt}
 use Rattle.protocol_data.specs.declared.tables.Object.{Object}
 use Rattle.protocol_data.specs.Serials.{AreSerials}
-use Rattle.protocol_data.specs.Unneeded.{IsSearched}
-use Rattle.protocol_data.proofs.Searches.{changed, grown, seen_less}
+use Rattle.protocol_data.specs.Searches.{IsSearchedBy}
+use Rattle.protocol_data.specs.declared.search.Search.{Search}
+use Rattle.protocol_data.proofs.Searches.{between, changed, grown, length_set, seen_less}
 
 -- those from n on
 abbrev AreFrom : ℕ → List ℕ → Type 0
@@ -67,28 +67,33 @@ module _ {X S : Type 0} (m : IndexMap ℕ X S) (i : ℕ) (w : X) where
   pub serials_lent : AreSerials (keys m) → AreSerials (keys (with_value_at m i w))
   serials_lent are = subst AreSerials (sym (keys-with_value_at m i w)) are
 
--- the invariant of the objects: after a push that was refused, a push, and a change
-module _ {S : Type 0} (m made : IndexMap ℕ Object S) (seen seen' from to own : ℕ) (b : Option Attempt) (are : AreSerials (keys m) × IsSearched (values m) seen from to b own)
-    (less : seen' ≤ seen) where
-  pub stays_searched : made.entries ≡ m.entries → AreSerials (keys made) × IsSearched (values made) seen' from to b own
-  stays_searched e = (
-    subst (λ es. AreSerials (keys_of es)) (sym e) are.0,
-    subst (λ es. IsSearched (values_of es) seen' from to b own) (sym e) (seen_less (values m) seen seen' from to own b are.1 less),
-  )
-
-  pub pushed_searched : (n : ℕ) (x : Object) → n ≡ index_map_len m → seen' ≤ n → made.entries ≡ insert_entry nat_eq m.entries (n + 1) x →
-      AreSerials (keys made) × IsSearched (values made) seen' from to b own
-  pushed_searched n x end within e = (
+-- the invariant of the objects after a push, and after a change
+module _ {S : Type 0} (m made : IndexMap ℕ Object S) (s : Search) (are : AreSerials (keys m) × IsSearchedBy (values m) s) where
+  pub pushed_searched : (n seen : ℕ) (fs : List Bool) (x : Object) → n ≡ index_map_len m → seen ≤ n → seen ≤ s.seen → fs ≡ s.changed ++ false ∷ [] →
+      made.entries ≡ insert_entry nat_eq m.entries (n + 1) x →
+      AreSerials (keys made) × IsSearchedBy (values made) (record { seen = seen; changed = fs; bearer = s.bearer; own_from = s.own_from })
+  pushed_searched n seen fs x end within less pushed e = (
     serials_pushed m n x are.0 end made e,
-    subst (λ xs. IsSearched xs seen' from to b own) (sym (values_pushed m n x are.0 end made e))
-        (grown (values m) seen' from to own b x (seen_less (values m) seen seen' from to own b are.1 less) (omega (arith, within, end, length_of_values m))),
+    subst (λ xs. IsSearchedBy xs (record { seen = seen; changed = fs; bearer = s.bearer; own_from = s.own_from })) (sym (values_pushed m n x are.0 end made e))
+        (subst (λ gs. IsSearchedBy (values m ++ x ∷ []) (record { seen = seen; changed = gs; bearer = s.bearer; own_from = s.own_from })) (sym pushed)
+        (record {
+          marked = length-append s.changed (false ∷ []) ∙ ap (λ k. k + 1) are.1.marked ∙ sym (length-append (values m) (x ∷ []));
+          kept = grown (values m) seen s.own_from s.changed s.bearer x false are.1.marked
+              (seen_less (values m) s.seen seen s.own_from s.changed s.bearer are.1.kept less) (omega (arith, within, end, length_of_values m));
+        })),
   )
 
-pub lent_searched : {S : Type 0} (m : IndexMap ℕ Object S) (seen from to from' to' own place : ℕ) (b : Option Attempt) (w : Object) →
-    AreSerials (keys m) × IsSearched (values m) seen from to b own → ((i : ℕ) → (i < from') ⊎ (to' ≤ i) → (i < from) ⊎ (to ≤ i)) →
-    (place < seen → (from' ≤ place) × (place < to')) →
-    AreSerials (keys (with_value_at m place w)) × IsSearched (values (with_value_at m place w)) seen from' to' b own
-lent_searched m seen from to from' to' own place b w are wider has = (
+pub lent_searched : {S : Type 0} (m : IndexMap ℕ Object S) (s : Search) (fs : List Bool) (place : ℕ) (w : Object) →
+    AreSerials (keys m) × IsSearchedBy (values m) s → (place < s.seen → fs ≡ slice_set s.changed place true) → (s.seen ≤ place → fs ≡ s.changed) →
+    AreSerials (keys (with_value_at m place w))
+    × IsSearchedBy (values (with_value_at m place w)) (record { seen = s.seen; changed = fs; bearer = s.bearer; own_from = s.own_from })
+lent_searched m s fs place w are marked unseen = (
   serials_lent m place w are.0,
-  subst (λ xs. IsSearched xs seen from' to' b own) (sym (values_lent m place w)) (changed (values m) seen from to from' to' own place b w are.1 wider has),
+  subst (λ xs. IsSearchedBy xs (record { seen = s.seen; changed = fs; bearer = s.bearer; own_from = s.own_from })) (sym (values_lent m place w)) (record {
+    marked = long ∙ are.1.marked ∙ sym (length_set (values m) place w);
+    kept = changed (values m) s.seen s.own_from place s.changed fs s.bearer w are.1.kept marked unseen;
+  }),
 )
+  where
+    long : length fs ≡ length s.changed
+    long = elim (between place s.seen) [ inl l ↦ ap length (marked l) ∙ length_set s.changed place true | inr l ↦ ap length (unseen l) ]

@@ -1,6 +1,6 @@
 -- Which of its objects an owner has to look at for a release. What is said of an object here is by its own row alone: the objects of one task
 -- are released together, with the first.
-use Rattle.std.specs.Prelude.{Bool, List, None, Option, Some, false, is_some, nat_lt, not, slice_get, true, ℕ, ◌&&◌, ◌<◌, ◌≡◌, ◌≤◌, ◌⊎◌, ◌||◌}
+use Rattle.std.specs.Prelude.{Bool, List, None, Option, Some, false, is_some, nat_lt, not, slice_get, true, ℕ, ◌&&◌, ◌<◌, ◌≡◌, ◌≤◌, ◌||◌}
 use Rattle.std.specs.List.{list_any}
 use Rattle.meaning.specs.Births.{same_id}
 use Rattle.event_log.specs.Entries.{Attempt}
@@ -44,9 +44,10 @@ stays going_on x = not (is_unneeded x) || is_borne_by going_on x
 abbrev pub is_kept : Option Attempt → ℕ → ℕ → Object → Bool
 is_kept bearer own i x = not (is_unneeded x) || (not (nat_lt i own) && is_borne_by bearer x)
 
--- each object before `seen` is kept, but for those from `from` to `to`
-abbrev pub IsSearched : List Object → ℕ → ℕ → ℕ → Option Attempt → ℕ → Type 0
-IsSearched xs seen from to bearer own = (i : ℕ) (x : Object) → i < seen → (i < from) ⊎ (to ≤ i) → slice_get xs i ≡ Some x → is_kept bearer own i x ≡ true
+-- each object before `seen` is kept, but for those that are marked as changed
+abbrev pub IsSearched : List Object → ℕ → List Bool → Option Attempt → ℕ → Type 0
+IsSearched xs seen changed bearer own =
+    (i : ℕ) (x : Object) → i < seen → slice_get changed i ≡ Some false → slice_get xs i ≡ Some x → is_kept bearer own i x ≡ true
 
 -- each object from the one place to before the other is kept
 abbrev pub AreKept : List Object → ℕ → ℕ → Option Attempt → ℕ → Type 0
@@ -59,6 +60,10 @@ AllStay xs from to going_on = (i : ℕ) (x : Object) → from ≤ i → i < to �
 -- the object at the place, if one stands there, isn't kept
 abbrev pub IsNotKept : List Object → ℕ → Option Attempt → ℕ → Type 0
 IsNotKept xs i bearer own = (x : Object) → slice_get xs i ≡ Some x → is_kept bearer own i x ≡ false
+
+-- none of the objects that are marked is kept
+abbrev pub AreNotKept : List Object → List Bool → Option Attempt → ℕ → Type 0
+AreNotKept xs changed bearer own = (i : ℕ) → slice_get changed i ≡ Some true → IsNotKept xs i bearer own
 
 -- the object at the place, if one stands there, may be released while that attempt goes on
 abbrev pub Goes : List Object → ℕ → Option Attempt → Type 0

@@ -331,6 +331,7 @@ impl Leases {
     }
 
     /// An equal list, the rows together. An error is want of memory.
+    #[inline(always)]
     pub fn copy(&self, alloc: Global) -> Result<Leases, AllocError>
         ensures { IfOk result (λ a. a ≡ self.now) }
     {

@@ -6,7 +6,7 @@ ghost use Rattle.protocol_data.specs.Unneeded.{AllStay, Goes};
 ghost use Rattle.protocol_data.specs.Lending.{LendsRow};
 
 use crate::search::{
-    Search, attend, first_to_go, is_looked_over, least, nothing_seen, settle, widened,
+    Search, attend, first_to_go, is_looked_over, least, mark, nothing_seen, settle,
 };
 use crate::tables::Object;
 use ids::AttemptId;
@@ -53,7 +53,7 @@ impl Objects {
     {
         Objects {
             rows: IndexMap::new(alloc),
-            search: nothing_seen(),
+            search: nothing_seen(alloc),
         }
     }
 
@@ -87,9 +87,15 @@ impl Objects {
     {
         // What comes was never looked at.
         let end = self.rows.len();
+        self.search.changed.push(false)?;
         self.search.seen = least(end, self.search.seen);
-        self.rows.insert(end as u64 + 1, object)?;
-        Ok(())
+        match self.rows.insert(end as u64 + 1, object) {
+            Ok(_) => Ok(()),
+            Err(error) => {
+                self.search.changed.remove_last();
+                Err(error.into())
+            }
+        }
     }
 
     /// The object at the place, to be changed.
@@ -98,14 +104,7 @@ impl Objects {
         ensures* lends { sem 𝓛 (LendsRow self.entry place result) }
         ensures value { slice_get self.old place ≡ Some result.now }
     {
-        let (from, to) = widened(
-            self.search.changed_from,
-            self.search.changed_to,
-            place,
-            self.search.seen,
-        );
-        self.search.changed_from = from;
-        self.search.changed_to = to;
+        mark(&mut self.search.changed, place, self.search.seen);
         &mut self.rows[place]
     }
 

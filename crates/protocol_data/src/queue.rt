@@ -8,6 +8,9 @@ use sequence::Seq;
 use std::alloc::{AllocError, Global};
 use std::marker::Model;
 
+/// So many places at the front may be empty, or as many as there are behind them.
+const MOST_GONE: usize = 64;
+
 /// The rows behind the first so many move up to the front.
 fn close_up(rows: &mut Seq<AskKey>, gone: usize)
     requires { gone ≤ length rows.old }
@@ -18,6 +21,13 @@ fn close_up(rows: &mut Seq<AskKey>, gone: usize)
     rows.items.truncate(left);
 }
 
+/// All rows are gone, and their places are free.
+fn clear(rows: &mut Seq<AskKey>)
+    ensures { rows.new ≡ [] }
+{
+    rows.items.truncate(0);
+}
+
 fn take_last(rows: &mut Seq<AskKey>)
     ensures { rows.new ≡ take (length rows.old - 1) rows.old }
 {
@@ -26,8 +36,8 @@ fn take_last(rows: &mut Seq<AskKey>)
 
 /// Asks that wait, in order. Contracts see the list.
 ///
-/// The first is taken out by counting it as gone: the others move up when more than half are gone, so that what it costs does not grow with how many
-/// there are.
+/// The first is taken out by counting it as gone: the others move up when more than half are gone, and more than a few, so that what it costs does not
+/// grow with how many there are.
 #[derive(Drop, Debug)]
 pub struct Queue {
     rows: Seq<AskKey>,
@@ -101,10 +111,17 @@ impl Queue {
             return;
         }
         self.gone += 1;
-        if self.gone > self.rows.len() / 2 {
-            close_up(&mut self.rows, self.gone);
+        let count = self.rows.len();
+        if self.gone == count {
+            clear(&mut self.rows);
             self.gone = 0;
+            return;
         }
+        if self.gone <= MOST_GONE.max(count / 2) {
+            return;
+        }
+        close_up(&mut self.rows, self.gone);
+        self.gone = 0;
     }
 
     /// Takes the last ask out again.

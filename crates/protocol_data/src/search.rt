@@ -1,29 +1,30 @@
 // Which of an owner's objects a search for what can be released has to look at.
 
-ghost use Rattle.std.specs.Prelude.{◌≡◌, ◌+◌, ◌-◌, ◌<◌, ◌≤◌, ◌⊎◌, ℕ, List, None, length, slice_get, true};
+ghost use Rattle.std.specs.Prelude.{◌≡◌, ◌<◌, ◌≤◌, ◌⊎◌, ℕ, List, [], None, Some, false, length, slice_get, slice_set, true};
 ghost use Rattle.meaning.specs.Births.{same_id};
 ghost use Rattle.std.specs.List.{list_any};
-ghost use Rattle.protocol_data.specs.Unneeded.{AllStay, AreKept, Goes, IsNotKept, has_holder, is_awaited, is_borne_by, is_kept, is_unneeded, stays};
+ghost use Rattle.flags.specs.Blocks.{AreDown};
+ghost use Rattle.protocol_data.specs.Unneeded.{AllStay, AreKept, AreNotKept, Goes, IsNotKept, IsSearched, has_holder, is_awaited, is_borne_by, is_kept, is_unneeded, stays};
 ghost use Rattle.protocol_data.specs.Bearers.{is_same_bearer};
 ghost use Rattle.protocol_data.specs.Searches.{IsLookedOver, IsSearchedBy, IsUnsure, PassesOver};
 ghost use Rattle.protocol_data.specs.declared.tables.Object.{Object};
 ghost use Rattle.indexmap.specs.IndexMap.{index_map_len, values};
 
 use crate::tables::{Object, ObjectSource, Progress};
+use flags::Flags;
 use ids::{AttemptId, ObjectId};
 use indexmap::IndexMap;
 use log_entries::SmallList;
+use std::alloc::Global;
 
-/// Which of an owner's objects may have come to be releasable: those from `seen` on, which were never looked at, and those from `changed_from` to
-/// before `changed_to`, which were changed since. Any other one isn't released while the bearer goes on, which bore none before `own_from`.
+/// Which of an owner's objects may have come to be releasable: those from `seen` on, which were never looked at, and those that are marked as changed
+/// since they were. Any other one isn't released while the bearer goes on, which bore none before `own_from`.
 #[derive(Drop)]
 pub struct Search {
     /// The place from which on none was ever looked at.
     pub seen: usize,
-    /// The first place of those that were changed since they were looked at.
-    pub changed_from: usize,
-    /// The place behind the last of them.
-    pub changed_to: usize,
+    /// By place, whether the object was changed since it was looked at.
+    pub changed: Flags,
     /// The attempt that went on when they were looked at, if one did: what it bore isn't released while it goes on.
     pub bearer: Option<AttemptId>,
     /// The place before which the bearer bore none.
@@ -119,31 +120,6 @@ fn kept_until(
     to
 }
 
-/// The place behind the last one, from the one on and before the other, of an object that may be released; else the one.
-#[inline(always)]
-#[tactic(auto, using(crate::proofs::Searches::one_more_kept))]
-fn kept_behind(
-    rows: &IndexMap<u64, Object>,
-    from: usize,
-    to: usize,
-    bearer: &Option<AttemptId>,
-    own: usize,
-) -> usize
-    ensures kept { AreKept (values rows.now) result to bearer.now own }
-    ensures end { (result ≤ from) ⊎ ((result ≤ to) × IsNotKept (values rows.now) (result - 1) bearer.now own) }
-{
-    for step in from..to {
-        let place = to - 1 - (step - from);
-        if place >= rows.len() {
-            return place + 1;
-        }
-        if !is_kept(bearer, own, place, &rows[place]) {
-            return place + 1;
-        }
-    }
-    from
-}
-
 fn is_same_bearer(bearer: &Option<AttemptId>, other: &Option<AttemptId>) -> bool
     ensures { result ≡ is_same_bearer bearer.now other.now }
 {
@@ -156,26 +132,16 @@ fn is_same_bearer(bearer: &Option<AttemptId>, other: &Option<AttemptId>) -> bool
     }
 }
 
-/// A span of places that has those from `from` to before `to`, and that place if it is before `seen`; it begins and ends there or where it did.
-pub fn widened(from: usize, to: usize, place: usize, seen: usize) -> (usize, usize)
-    ensures wider { (i : ℕ) → (i < result.0) ⊎ (result.1 ≤ i) → (i < from) ⊎ (to ≤ i) }
-    ensures has { place < seen → (result.0 ≤ place) × (place < result.1) }
-    ensures begins { (result.0 ≡ from) ⊎ (result.0 ≡ place) }
-    ensures ends { (result.1 ≡ to) ⊎ (result.1 ≡ place + 1) }
+/// Marks the object at the place as changed, if it was looked at.
+#[inline(always)]
+pub fn mark(changed: &mut Flags, place: usize, seen: usize)
+    requires { place < length changed.old }
+    ensures marked { place < seen → changed.new ≡ slice_set changed.old place true }
+    ensures unseen { seen ≤ place → changed.new ≡ changed.old }
 {
-    if place >= seen {
-        return (from, to);
+    if place < seen {
+        changed.set(place, true);
     }
-    if from >= to {
-        return (place, place + 1);
-    }
-    if place < from {
-        return (place, to);
-    }
-    if place < to {
-        return (from, to);
-    }
-    (from, place + 1)
 }
 
 /// The lesser of the two numbers.
@@ -190,23 +156,19 @@ pub fn least(one: usize, other: usize) -> usize
     other
 }
 
-/// The first place from that one on that is in the span or isn't before `seen`.
-fn first_unsure(from: usize, seen: usize, changed_from: usize, changed_to: usize) -> usize
+/// The first place from that one on that is marked or isn't before `seen`.
+fn first_unsure(from: usize, seen: usize, changed: &Flags) -> usize
     ensures on { from ≤ result }
-    ensures sure { (result ≤ from) ⊎ ((result ≤ seen) × ((result ≤ changed_from) ⊎ ((changed_to ≤ from) ⊎ (changed_to ≤ changed_from)))) }
-    ensures unsure { (seen ≤ result) ⊎ ((changed_from ≤ result) × (result < changed_to)) }
+    ensures sure { (result ≤ from) ⊎ (result ≤ seen) }
+    ensures down { AreDown changed.now from result }
+    ensures unsure { (seen ≤ result) ⊎ (slice_get changed.now result ≡ Some true) }
 {
     if from >= seen {
         return from;
     }
-    if from >= changed_to || changed_from >= changed_to {
-        return seen;
-    }
-    if from >= changed_from {
-        return from;
-    }
-    if changed_from < seen {
-        return changed_from;
+    let next = changed.next(from);
+    if next < seen && next < changed.len() {
+        return next;
     }
     seen
 }
@@ -221,14 +183,13 @@ fn own_behind(bearer: &Option<AttemptId>, own: usize, seen: usize) -> usize
     }
 }
 
-/// No object was looked at.
-pub fn nothing_seen() -> Search
-    ensures { (xs : List Object) → IsSearchedBy xs result }
+/// There is no object yet.
+pub fn nothing_seen(alloc: Global) -> Search
+    ensures { IsSearchedBy [] result }
 {
     Search {
         seen: 0,
-        changed_from: 0,
-        changed_to: 0,
+        changed: Flags::new(alloc),
         bearer: None,
         own_from: 0,
     }
@@ -239,8 +200,7 @@ pub fn attend(search: &mut Search, going_on: Option<AttemptId>)
     ensures kept { (xs : List Object) → IsSearchedBy xs search.old → IsSearchedBy xs search.new }
     ensures bearer { (search.new ≡ search.old) ⊎ (search.new.bearer ≡ going_on) }
     ensures seen { (search.new.seen ≡ search.old.seen) ⊎ (search.new.seen ≡ search.old.own_from) }
-    ensures begins { search.new.changed_from ≡ search.old.changed_from }
-    ensures ends { search.new.changed_to ≡ search.old.changed_to }
+    ensures changed { search.new.changed ≡ search.old.changed }
 {
     if is_same_bearer(&search.bearer, &going_on) {
         return;
@@ -258,7 +218,7 @@ fn next_unsure(search: &Search, from: usize, going_on: &Option<AttemptId>) -> us
     ensures passes { PassesOver search.now going_on.now result }
 {
     if is_same_bearer(&search.bearer, going_on) {
-        return first_unsure(from, search.seen, search.changed_from, search.changed_to);
+        return first_unsure(from, search.seen, &search.changed);
     }
     from
 }
@@ -272,9 +232,6 @@ pub fn is_looked_over(
     requires { IsSearchedBy (values rows.now) search.now }
     ensures { result ≡ true → AllStay (values rows.now) 0 (length (values rows.now)) going_on.now }
 {
-    if search.changed_from < search.changed_to {
-        return false;
-    }
     next_unsure(search, 0, going_on) >= rows.len()
 }
 
@@ -306,37 +263,56 @@ pub fn first_to_go(
     place
 }
 
-/// What was changed and what was never looked at is looked at from its ends, so that no search need look at it again: each end then is an object
-/// that may be released, or nothing is left.
+/// Takes the mark from the object at the place. Its block of marks stays marked where it is the first of a search: of most it is the one.
+fn take_mark(changed: &mut Flags, place: usize, is_first: bool)
+    requires { place < length changed.old }
+    ensures { changed.new ≡ slice_set changed.old place false }
+{
+    changed.set(place, false);
+    if !is_first {
+        changed.sum_up(place);
+    }
+}
+
+/// Takes the marks from those of the changed objects that are kept.
+#[inline(always)]
+fn look_over(
+    rows: &IndexMap<u64, Object>,
+    changed: &mut Flags,
+    bearer: &Option<AttemptId>,
+    own: usize,
+)
+    requires { length changed.old ≡ index_map_len rows.now }
+    ensures long { length changed.new ≡ length changed.old }
+    ensures kept { (seen : ℕ) → IsSearched (values rows.now) seen changed.old bearer.now own → IsSearched (values rows.now) seen changed.new bearer.now own }
+    ensures looked { AreNotKept (values rows.now) changed.new bearer.now own }
+{
+    let count = rows.len();
+    let mut place = 0;
+    for turn in 0..count {
+        let next = changed.next(place);
+        if next >= count {
+            return;
+        }
+        if is_kept(bearer, own, next, &rows[next]) {
+            take_mark(changed, next, turn == 0);
+        }
+        place = next + 1;
+    }
+}
+
+/// What was changed and what was never looked at is looked at, so that no search need look at it again: what is left then are objects that may be
+/// released, and what lies behind the first one of those that were never looked at.
 pub fn settle(rows: &IndexMap<u64, Object>, search: &mut Search)
-    ensures kept { IsSearchedBy (values rows.now) search.old → IsSearchedBy (values rows.now) search.new }
+    requires { IsSearchedBy (values rows.now) search.old }
+    ensures kept { IsSearchedBy (values rows.now) search.new }
     ensures bearer { search.new.bearer ≡ search.old.bearer }
     ensures looked { IsLookedOver (values rows.now) search.new }
 {
-    let from = kept_until(
-        rows,
-        search.changed_from,
-        search.changed_to,
-        &search.bearer,
-        search.own_from,
-    );
-    let to = kept_behind(
-        rows,
-        from,
-        search.changed_to,
-        &search.bearer,
-        search.own_from,
-    );
-    let seen = kept_until(
-        rows,
-        search.seen,
-        rows.len(),
-        &search.bearer,
-        search.own_from,
-    );
-    let own_from = own_behind(&search.bearer, search.own_from, seen);
-    search.changed_from = from;
-    search.changed_to = to;
+    let bearer = search.bearer;
+    look_over(rows, &mut search.changed, &bearer, search.own_from);
+    let seen = kept_until(rows, search.seen, rows.len(), &bearer, search.own_from);
+    let own_from = own_behind(&bearer, search.own_from, seen);
     search.seen = seen;
     search.own_from = own_from;
 }

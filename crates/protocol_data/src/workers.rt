@@ -249,6 +249,7 @@ impl Workers {
     }
 
     /// The worker changes places with the one that stands at that place.
+    #[inline(always)]
     pub fn exchange(&mut self, place: usize, worker: &mut Boxed<Worker>)
         requires { place < length self.old }
         ensures taken { slice_get self.old place ≡ Some worker.new }
@@ -260,6 +261,7 @@ impl Workers {
     }
 
     /// The worker at the place is looked at, so that where it has nothing to claim or to commit the next search passes over it.
+    #[inline(always)]
     pub fn settle(&mut self, place: usize)
         ensures { self.new ≡ self.old }
     {

@@ -26,6 +26,17 @@ fn write_two(text: &mut String, number: u64) -> Result<(), AllocError>
     write_digit(text, number % 10)
 }
 
+/// Writes a number of three digits.
+#[inline(always)]
+fn write_three(text: &mut String, number: u64) -> Result<(), AllocError>
+    requires some { 100 ≤ number }
+    requires few { number < 1000 }
+    ensures { OnOk result (string_bytes text.new ≡ string_bytes text.old ++ decimal number) }
+{
+    write_two(text, number / 10)?;
+    write_digit(text, number % 10)
+}
+
 /// Writes a number of any length.
 #[inline(never)]
 fn write_long(text: &mut String, number: u64) -> Result<(), AllocError>
@@ -36,6 +47,9 @@ fn write_long(text: &mut String, number: u64) -> Result<(), AllocError>
     }
     if number < 100 {
         return write_two(text, number);
+    }
+    if number < 1000 {
+        return write_three(text, number);
     }
     write_long(text, number / 10)?;
     write_digit(text, number % 10)

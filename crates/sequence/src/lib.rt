@@ -104,6 +104,13 @@ impl<T: Drop> Seq<T> {
         ensures emptied { OnOk result (other.new ≡ []) }
         ensures err { OnErr result ((self.new ≡ self.old) × (other.new ≡ other.old)) }
     {
+        if other.items.len() == 1 && self.items.len() < self.items.capacity() {
+            // One item is moved with no call.
+            if let Some(item) = other.items.pop() {
+                self.items.push_reserved(item);
+            }
+            return Ok(());
+        }
         self.items.append(&mut other.items)?;
         Ok(())
     }

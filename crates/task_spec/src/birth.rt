@@ -4,7 +4,9 @@ ghost use Rattle.std.specs.Prelude.{◌≡◌, ◌++◌, IfOk, OnOk, map};
 ghost use Rattle.task_spec.specs.Births.{argument_of, birth_of};
 ghost use Rattle.task_spec.specs.Dereferenced.{id_read, ids_read, dereferenced_in};
 
+use small_list::SmallList;
 use std::alloc::{AllocError, Global};
+use std::sync::Arc;
 use values::RunValue;
 use values::ids::ObjectId;
 
@@ -25,8 +27,8 @@ pub enum Birth {
     /// A remote call: its function, its arguments, the depth at which its body runs (main's is 0), how many new runs it
     /// allows after a failure of the system, and how many results it has beside the first.
     Task {
-        function: String,
-        arguments: Vec<Argument>,
+        function: Arc<String>,
+        arguments: SmallList<Argument>,
         depth: u32,
         retries: u8,
         others: u8,
@@ -47,10 +49,10 @@ impl Argument {
 }
 
 /// Equal arguments.
-fn copy_arguments(alloc: Global, arguments: &[Argument]) -> Result<Vec<Argument>, AllocError>
-    ensures { IfOk result (λ c. map argument_of c.items ≡ map argument_of arguments.now) }
+fn copy_arguments(alloc: Global, arguments: &[Argument]) -> Result<SmallList<Argument>, AllocError>
+    ensures { IfOk result (λ c. map argument_of c ≡ map argument_of arguments.now) }
 {
-    let mut copies = Vec::new(alloc);
+    let mut copies = SmallList::new(alloc);
     for argument in arguments {
         copies.push(argument.copy(alloc)?)?;
     }
@@ -71,8 +73,8 @@ impl Birth {
                 retries,
                 others,
             } => {
-                let function = function.clone()?;
-                let arguments = copy_arguments(alloc, arguments)?;
+                let function = Arc::try_clone(function)?;
+                let arguments = copy_arguments(alloc, arguments.as_slice())?;
                 Ok(Birth::Task {
                     function,
                     arguments,
@@ -116,6 +118,6 @@ pub fn dereferenced(birth: &Birth, alloc: Global) -> Result<Vec<ObjectId>, Alloc
 {
     match birth {
         Birth::Put(_) => Ok(Vec::new(alloc)),
-        Birth::Task { arguments, .. } => ids_of_marked(arguments, alloc),
+        Birth::Task { arguments, .. } => ids_of_marked(arguments.as_slice(), alloc),
     }
 }

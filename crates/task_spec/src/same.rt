@@ -61,7 +61,7 @@ impl Birth {
                         && *depth == *other_depth
                         && *retries == *other_retries
                         && *others == *other_others
-                        && are_same_arguments(arguments, other_arguments)
+                        && are_same_arguments(arguments.as_slice(), other_arguments.as_slice())
                 }
             },
         }

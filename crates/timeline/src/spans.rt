@@ -76,7 +76,7 @@ fn called(
         return attempt_name(alloc, attempt);
     };
     let mut text = String::new(alloc);
-    write_call(&mut text, contents, function.as_str(), arguments)?;
+    write_call(&mut text, contents, function.as_str(), arguments.as_slice())?;
     Ok(text)
 }
 

@@ -50,6 +50,7 @@ fn receive(
 }
 
 /// The worker's step alone, where these messages were sent so far.
+#[inline(always)]
 fn step(
     alloc: Global,
     here: &mut WorkerContext,

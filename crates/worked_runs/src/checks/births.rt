@@ -2,7 +2,9 @@
 
 use crate::checks::failed::{Checked, wants};
 use ids::{ObjectId, WorkerId};
+use small_list::SmallList;
 use std::alloc::{AllocError, Global};
+use std::sync::Arc;
 use task_spec::{Argument, Birth, dereferenced};
 use values::RunValue;
 
@@ -29,8 +31,8 @@ fn kept(value: RunValue) -> Argument {
 
 fn task(alloc: Global, arguments: Vec<Argument>) -> Result<Birth, AllocError> {
     Ok(Birth::Task {
-        function: String::from_str(alloc, "f")?,
-        arguments,
+        function: Arc::new(alloc, String::from_str(alloc, "f")?)?,
+        arguments: SmallList::from_vec(arguments),
         depth: 3,
         retries: 2,
         others: 0,

@@ -1,4 +1,5 @@
 use Rattle.std.proofs.Common.{◌≡◌, ◌∙◌, ◌+◌, List, map, refl, sym, ap, subst}
+use Rattle.std.specs.Prelude.{string_bytes}
 use Rattle.meaning.specs.Values as meant
 use Rattle.meaning.specs.Values.{Name, Task}
 use Rattle.meaning.specs.Meaning.{replay}
@@ -21,12 +22,12 @@ returns-in_ok-attempt-in-Task-clause-replayed c =
     let task = λ (g : Name) (args : List meant.Argument). Task g args c.in-Task.depth c.in-Task.retries c.in-Task.others in
     let script = script_of c.args.script.now in
     let answers = map content_of c.args.answers.now in
-    let is : birth_of c.args.spec.now ≡ task c.as_str.result.now (map argument_of c.as_slice.result.now) =
-    ap birth_of c.in-Task.is ∙ ap (λ g. task g (map task_argument c.in-Task.arguments.items)) (sym c.as_str.ensures.value)
-    ∙ ap (λ xs. task c.as_str.result.now (map task_argument xs)) (sym c.deref.ensures.value)
-    ∙ ap (task c.as_str.result.now) (sym c.in_ok-arguments-in-Task.ensures ∙ ap (map argument_of) (sym c.as_slice.ensures)) in
+    let is : birth_of c.args.spec.now ≡ task c.as_str.result.now (map argument_of c.as_slice-in-Task.result.now) =
+    ap birth_of c.in-Task.is ∙ ap (λ g. task g (map task_argument c.in-Task.arguments)) (ap string_bytes (sym c.deref.ensures) ∙ sym c.as_str.ensures.value)
+    ∙ ap (λ xs. task c.as_str.result.now (map task_argument xs)) (sym c.as_slice.ensures)
+    ∙ ap (task c.as_str.result.now) (sym c.in_ok-arguments-in-Task.ensures ∙ ap (map argument_of) (sym c.as_slice-in-Task.ensures)) in
     let stands =
-    stands_so script c.args.spec.now c.as_str.result.now (map argument_of c.as_slice.result.now) c.in-Task.depth c.in-Task.retries c.in-Task.others c.args.base
+    stands_so script c.args.spec.now c.as_str.result.now (map argument_of c.as_slice-in-Task.result.now) c.in-Task.depth c.in-Task.retries c.in-Task.others c.args.base
     (map outcome_of c.in_ok-answers-in-Task.answers.items) answers c.in_ok-attempt-in-Task.attempt (c.in_ok-attempt-in-Task.ensures.halts c.in-Task.retries c.in-Task.others)
     is c.in_ok-answers-in-Task.ensures in
     if_ok _ _ c.finish.result
@@ -39,12 +40,12 @@ returns-in_ok-attempt-in-Task-clause-broken c =
     let task = λ (g : Name) (args : List meant.Argument). Task g args c.in-Task.depth c.in-Task.retries c.in-Task.others in
     let script = script_of c.args.script.now in
     let answers = map content_of c.args.answers.now in
-    let is : birth_of c.args.spec.now ≡ task c.as_str.result.now (map argument_of c.as_slice.result.now) =
-    ap birth_of c.in-Task.is ∙ ap (λ g. task g (map task_argument c.in-Task.arguments.items)) (sym c.as_str.ensures.value)
-    ∙ ap (λ xs. task c.as_str.result.now (map task_argument xs)) (sym c.deref.ensures.value)
-    ∙ ap (task c.as_str.result.now) (sym c.in_ok-arguments-in-Task.ensures ∙ ap (map argument_of) (sym c.as_slice.ensures)) in
+    let is : birth_of c.args.spec.now ≡ task c.as_str.result.now (map argument_of c.as_slice-in-Task.result.now) =
+    ap birth_of c.in-Task.is ∙ ap (λ g. task g (map task_argument c.in-Task.arguments)) (ap string_bytes (sym c.deref.ensures) ∙ sym c.as_str.ensures.value)
+    ∙ ap (λ xs. task c.as_str.result.now (map task_argument xs)) (sym c.as_slice.ensures)
+    ∙ ap (task c.as_str.result.now) (sym c.in_ok-arguments-in-Task.ensures ∙ ap (map argument_of) (sym c.as_slice-in-Task.ensures)) in
     let stands =
-    stands_so script c.args.spec.now c.as_str.result.now (map argument_of c.as_slice.result.now) c.in-Task.depth c.in-Task.retries c.in-Task.others c.args.base
+    stands_so script c.args.spec.now c.as_str.result.now (map argument_of c.as_slice-in-Task.result.now) c.in-Task.depth c.in-Task.retries c.in-Task.others c.args.base
     (map outcome_of c.in_ok-answers-in-Task.answers.items) answers c.in_ok-attempt-in-Task.attempt (c.in_ok-attempt-in-Task.ensures.halts c.in-Task.retries c.in-Task.others)
     is c.in_ok-answers-in-Task.ensures in
     on_err _ _ c.finish.result
@@ -58,12 +59,12 @@ returns-in_ok-attempt-in-Task-clause-keeps c =
     let task = λ (g : Name) (args : List meant.Argument). Task g args c.in-Task.depth c.in-Task.retries c.in-Task.others in
     let script = script_of c.args.script.now in
     let answers = map content_of c.args.answers.now in
-    let is : birth_of c.args.spec.now ≡ task c.as_str.result.now (map argument_of c.as_slice.result.now) =
-    ap birth_of c.in-Task.is ∙ ap (λ g. task g (map task_argument c.in-Task.arguments.items)) (sym c.as_str.ensures.value)
-    ∙ ap (λ xs. task c.as_str.result.now (map task_argument xs)) (sym c.deref.ensures.value)
-    ∙ ap (task c.as_str.result.now) (sym c.in_ok-arguments-in-Task.ensures ∙ ap (map argument_of) (sym c.as_slice.ensures)) in
+    let is : birth_of c.args.spec.now ≡ task c.as_str.result.now (map argument_of c.as_slice-in-Task.result.now) =
+    ap birth_of c.in-Task.is ∙ ap (λ g. task g (map task_argument c.in-Task.arguments)) (ap string_bytes (sym c.deref.ensures) ∙ sym c.as_str.ensures.value)
+    ∙ ap (λ xs. task c.as_str.result.now (map task_argument xs)) (sym c.as_slice.ensures)
+    ∙ ap (task c.as_str.result.now) (sym c.in_ok-arguments-in-Task.ensures ∙ ap (map argument_of) (sym c.as_slice-in-Task.ensures)) in
     both_ok _ _ _ c.finish.result
-    (λ p of frame. kept_so (c.in-Task.others + 1) p c.in_ok-attempt-in-Task.attempt of script (task c.as_str.result.now (map argument_of c.as_slice.result.now))
+    (λ p of frame. kept_so (c.in-Task.others + 1) p c.in_ok-attempt-in-Task.attempt of script (task c.as_str.result.now (map argument_of c.as_slice-in-Task.result.now))
     (birth_of c.args.spec.now) c.args.base no_past (map outcome_of c.in_ok-answers-in-Task.answers.items) answers is c.in_ok-answers-in-Task.ensures
     frame (c.in_ok-attempt-in-Task.ensures.keeps c.in-Task.retries c.in-Task.others))
     c.finish.ensures.value c.finish.ensures.frame
@@ -75,14 +76,14 @@ returns-in_ok-attempt-in-Task-clause-counts c =
     let script = script_of c.args.script.now in
     let base = c.args.base in
     let a = c.in_ok-attempt-in-Task.attempt in
-    let is : birth_of c.args.spec.now ≡ task c.as_str.result.now (map argument_of c.as_slice.result.now) =
-    ap birth_of c.in-Task.is ∙ ap (λ g. task g (map task_argument c.in-Task.arguments.items)) (sym c.as_str.ensures.value)
-    ∙ ap (λ xs. task c.as_str.result.now (map task_argument xs)) (sym c.deref.ensures.value)
-    ∙ ap (task c.as_str.result.now) (sym c.in_ok-arguments-in-Task.ensures ∙ ap (map argument_of) (sym c.as_slice.ensures)) in
+    let is : birth_of c.args.spec.now ≡ task c.as_str.result.now (map argument_of c.as_slice-in-Task.result.now) =
+    ap birth_of c.in-Task.is ∙ ap (λ g. task g (map task_argument c.in-Task.arguments)) (ap string_bytes (sym c.deref.ensures) ∙ sym c.as_str.ensures.value)
+    ∙ ap (λ xs. task c.as_str.result.now (map task_argument xs)) (sym c.as_slice.ensures)
+    ∙ ap (task c.as_str.result.now) (sym c.in_ok-arguments-in-Task.ensures ∙ ap (map argument_of) (sym c.as_slice-in-Task.ensures)) in
     both_ok _ _ _ c.finish.result
     (λ p of steps. subst (HasSteps script (birth_of c.args.spec.now) base (map content_of c.args.answers.now)) (sym steps)
     (subst (λ os. HasSteps script (birth_of c.args.spec.now) base os a.steps) c.in_ok-answers-in-Task.ensures
     (subst (λ b. HasSteps script b base (map outcome_of c.in_ok-answers-in-Task.answers.items) a.steps) (sym is)
     (c.in_ok-attempt-in-Task.ensures.counts c.in-Task.retries c.in-Task.others (stop_of p.outcomes.stop)
-    (stopped_of a.halt (task c.as_str.result.now (map argument_of c.as_slice.result.now)) c.in-Task.others _ refl of.stop)))))
+    (stopped_of a.halt (task c.as_str.result.now (map argument_of c.as_slice-in-Task.result.now)) c.in-Task.others _ refl of.stop)))))
     c.finish.ensures.value c.finish.ensures.steps

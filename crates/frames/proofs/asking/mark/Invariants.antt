@@ -1,4 +1,4 @@
-use Rattle.std.proofs.Common.{◌≡◌, ◌++◌, map, drop, vec_len}
+use Rattle.std.proofs.Common.{◌≡◌, ◌++◌, map, drop, length}
 use Rattle.meaning.specs.Meaning.{mark}
 use Rattle.frames.specs.Values.{value_of}
 use Rattle.frames.specs.Machines.{argument_of}
@@ -7,7 +7,7 @@ use Rattle.frames.proofs.asking.mark.Given as goal
 -- the arguments so far, marked, with those that are left
 abbrev pub invariant-loop-value : goal.invariant-loop-value
 invariant-loop-value l = record {
-  count : vec_len l.arguments ≡ l.value-index;
-  left : mark (map value_of l.values) l.marks ≡ map argument_of l.arguments.items ++ mark (map value_of (drop l.value-index l.values))
+  count : length l.arguments ≡ l.value-index;
+  left : mark (map value_of l.values) l.marks ≡ map argument_of l.arguments ++ mark (map value_of (drop l.value-index l.values))
       (drop l.value-index l.marks);
 }

@@ -5,7 +5,7 @@ use Rattle.protocol_data.proofs.objects.Objects.row_mut.Goals as goal
 
 pub invariant_of-self-lent : goal.invariant_of-self-lent
 invariant_of-self-lent c w =
-    lent_searched c.self.inside.rows _ _ _ _ _ _ c.args.place _ w c.self.invariant c.widened-from.ensures.wider c.widened-from.ensures.has
+    lent_searched c.self.inside.rows c.self.inside.search _ c.args.place w c.self.invariant c.mark.ensures.marked c.mark.ensures.unseen
 
 pub returns : goal.returns
 returns c = (

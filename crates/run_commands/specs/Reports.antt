@@ -45,15 +45,6 @@ timeline_text how log messages sent = compact_text (timeline_data how log messag
 abbrev pub IsTimelineOf : Contents → Account → List ℕ → Type 0
 IsTimelineOf how a text = (entries : List Entry) × (entries ≡ a.log) × (text ≡ timeline_text how entries a.messages a.sent)
 
--- whether it says in which lines of an event file events stand
-abbrev pub names_lines : Form → Bool
-names_lines (forms.Why how o) = true
-names_lines (forms.WhyMain how) = true
-names_lines (forms.WhyWorker how w) = true
-names_lines (forms.WhyNode how n) = true
-names_lines forms.Limit = true
-names_lines _ = false
-
 abbrev pub IsReportIn : Form → Account → List ℕ → Type 0
 IsReportIn forms.Text a text = text ≡ report_text a.log
 IsReportIn forms.Json a text = text ≡ json_text a.log

@@ -4,7 +4,7 @@ ghost use Rattle.std.specs.Prelude.{◌≡◌, ◌++◌, IfOk, string_bytes};
 ghost use Rattle.books.specs.Lines.{book_lines};
 ghost use Rattle.report_text.specs.Report.{report_text};
 ghost use Rattle.fault_runs.specs.of_protocol_board.Cores.{IsSoundLog};
-ghost use Rattle.run_commands.specs.Reports.{IsReportIn, account_of, names_lines};
+ghost use Rattle.run_commands.specs.Reports.{IsReportIn, account_of};
 ghost use Rattle.state_text.specs.Text.{event_count, state_text};
 ghost use Rattle.summary_text.specs.Text.{summary_text};
 
@@ -61,30 +61,6 @@ pub enum Form {
     WhyNode(Contents, NodeId),
     /// Which limit it met, and in which event, or which event was the last.
     Limit,
-}
-
-impl Form {
-    /// Whether it says in which lines of an event file events stand.
-    pub fn names_lines(self) -> bool
-        ensures { result ≡ names_lines self }
-    {
-        match self {
-            Form::Why(..)
-            | Form::WhyMain(_)
-            | Form::WhyWorker(..)
-            | Form::WhyNode(..)
-            | Form::Limit => true,
-            Form::Text
-            | Form::Json
-            | Form::TextWithBooks
-            | Form::Log(_)
-            | Form::LogWithMessages(_)
-            | Form::Timeline(_)
-            | Form::Lineage(_)
-            | Form::TextWithSummary
-            | Form::State => false,
-        }
-    }
 }
 
 /// The report, and behind it the books of the seats.

@@ -1,9 +1,7 @@
 // What is written of a run, and the status of main's end.
 
-ghost use Rattle.std.specs.Prelude.{◌≡◌, IfOk, IfErr, string_bytes, true};
+ghost use Rattle.std.specs.Prelude.{◌≡◌, IfOk, IfErr, string_bytes};
 ghost use Rattle.fault_runs.specs.of_protocol_board.Cores.{IsSoundLog};
-ghost use Rattle.run_commands.specs.Reports.{names_lines};
-ghost use Rattle.run_commands.specs.SimReports.{lines_in_file};
 ghost use Rattle.run_commands.specs.SoFar.{IsToldOf, IsToldOfReplay};
 
 use crate::event_lines::lines_in_file;
@@ -12,7 +10,7 @@ use fault_runs::{Board, Replay};
 use raysim_streams::CommandRefusal;
 use segment::ScriptName;
 use sequence::Seq;
-use std::alloc::{AllocError, Global};
+use std::alloc::Global;
 
 /// What is written of a run up to its end, or up to where it stops, and the status of main's end there.
 #[derive(Drop)]
@@ -44,21 +42,6 @@ pub fn told<S: ScriptName>(
     }
 }
 
-/// The numbers in the file of such lines, where the form tells of lines; else no list is made.
-fn told_lines(
-    alloc: Global,
-    form: Form,
-    numbers: &Seq<usize>,
-    lines: &Seq<usize>,
-) -> Result<Seq<usize>, AllocError>
-    ensures { IfOk result (λ all. names_lines form ≡ true → all ≡ lines_in_file numbers.now lines.now) }
-{
-    if !form.names_lines() {
-        return Ok(Seq::new(alloc));
-    }
-    lines_in_file(alloc, numbers, lines)
-}
-
 /// What is written of the replay as it is, where the lines that were played have these numbers in their file.
 pub fn told_replay<S: ScriptName>(
     alloc: Global,
@@ -69,7 +52,7 @@ pub fn told_replay<S: ScriptName>(
     ensures told { IfOk result (λ so_far. IsToldOfReplay form numbers.now replay.now (string_bytes so_far.text) so_far.status) }
     ensures only { IfErr result (λ refusal. refusal ≡ CommandRefusal.NoMemory) }
 {
-    match told_lines(alloc, form, numbers, replay.lines()) {
+    match lines_in_file(alloc, numbers, replay.lines()) {
         Ok(lines) => told(alloc, replay.board(), replay.sent(), &lines, form),
         Err(_) => Err(CommandRefusal::NoMemory),
     }

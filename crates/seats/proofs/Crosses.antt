@@ -29,6 +29,7 @@ use Rattle.script_check.proofs.tree.CheckedStatement.TheLaws.TheKnot as statemen
 use Rattle.script_check.specs.contracts.checked.Checked as Checked
 use Rattle.frame_code.specs.contracts.instruction.Code as Code
 use Rattle.frame_code.specs.contracts.instruction.Instruction as Instruction
+use Rattle.frame_code.specs.contracts.instruction.Spawn as Spawn
 use Rattle.frames.specs.contracts.compiled.Compiled as Compiled
 use Rattle.segment.specs.declared.script_name.ScriptName as script_name
 use Rattle.protocol_data.proofs.message.Endpoint.TheSendSync as endpoint
@@ -57,8 +58,11 @@ use Rattle.seats.specs.contracts.shared.Shared as Shared
 pub checked_sync : IsSync Checked.the_row
 checked_sync = search (exprs.crosses, statements.crosses, kinds.crosses, crosses, sendable) depth 60 fits 20000
 
+spawn_sync : IsSync Spawn.the_field.row
+spawn_sync = search (crosses, sendable) depth 60 fits 20000
+
 instruction_sync : IsSync Instruction.the_field.row
-instruction_sync = search (crosses, sendable) depth 60 fits 20000
+instruction_sync = search (spawn_sync, crosses, sendable) depth 60 fits 20000
 
 code_sync : IsSync Code.the_field.row
 code_sync = search (instruction_sync, crosses, sendable) depth 60 fits 20000

@@ -17,7 +17,7 @@ MANUAL, BASH, ZSH = "docs/raysim.1", "docs/completions/raysim.bash", "docs/compl
 FILES, FOLDERS = ("FILE",), ("DIR",)
 STATUS = [
     ("0", "A script is in order; main ended with a value; no fault was found that main doesn't survive."),
-    ("1", "Main ended with a trap; or there is no report: something was refused, or a word of the command line is at fault."),
+    ("1", "Main ended with a trap; or something was refused, with --so-far too; or a file beside the report could not be written; or a word of the command line is at fault; or help or the version was asked for."),
     ("2", "Main ended with a fault, or is open; a fault was found that main doesn't survive."),
 ]
 EXAMPLES = [
@@ -87,8 +87,9 @@ def manual(whole, commands):
     out = ['.TH RAYSIM 1 "" "Rowandeck" "User commands"', ".SH NAME", f"raysim \\- {roff(whole.about[0].lower() + whole.about[1:])}", ".SH SYNOPSIS"]
     for command in commands:
         out += [".B raysim", roff(command.usage.removeprefix("raysim ")), ".br"]
-    out += [".SH DESCRIPTION", "A script's functions call each other plainly or remotely. What a run prints and answers is what it prints and answers where every",
-            "remote call is a plain call, whatever messages come late or twice, and whatever workers and nodes die.", ".SH COMMANDS"]
+    out += [".SH DESCRIPTION", "A script's functions call each other plainly or remotely. The report of a run begins as that of the run in which every remote call is a plain",
+            "call, whatever messages come late or twice, and whatever workers and nodes die: where main ended, with all that it prints and its end; else with",
+            "the first of its prints, and main has a fault or is open.", ".SH COMMANDS"]
     for command in commands:
         out += [f".SS raysim {roff(command.usage.removeprefix('raysim '))}", roff(command.about) + "."]
         for form, does in command.words:

@@ -421,7 +421,8 @@ LAW_TEXT = """\
 What `raysim run` and `raysim sim` write begins as what `raysim serial` writes of the script ([theorems.md](theorems.md) has it in words).
 Whoever believes that alone reads these files, in this order: {lines} lines in {files} files. Where a file has more than is needed here,
 the last column names what is. `run`, `sim` and `run_threaded` carry the law in the fields `is_script`, `as_serial` and `written` (`report_out`)
-of `IsRunReported`, `IsSimReported` and `AreWritten`, whose other fields say more. Types that the definitions share with the code are read there,
+of `IsRunReported`, `IsSimReported` and `AreWritten`. That the log in which a fault has its cause is the run's own, and legal, their fields `reported`
+and `run` say. Types that the definitions share with the code are read there,
 and aren't counted: `log_entries/src/{{entry,event,refusal}}.rt`, `values/src/fault.rt`, `script_tokens/src/token.rt`, `script_syntax/src/tree.rt`,
 `run_commands/src/form.rt`.
 """

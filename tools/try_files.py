@@ -34,8 +34,8 @@ FILES = {
     "old": b"old\n",
     "secret": b"old\n",
 }
-FOLDERS = ["in", "locked"]
-LINKS = {"to_script": "sq.ray", "to_old": "old", "to_in": "in", "nowhere": "not/there"}
+FOLDERS = ["in", "locked", "linked"]
+LINKS = {"to_script": "sq.ray", "to_old": "old", "to_in": "in", "nowhere": "not/there", "linked/open.ev": "not/there"}
 LOCKED = {"secret": 0o000, "locked": 0o555}
 
 # An output that is an input, or another output: the words, and the line that is told.
@@ -47,13 +47,13 @@ CLASHES = [
     ("run to_script --lineage sq.ray", "--lineage sq.ray: is the script itself"),
     ("run sq.ray --lineage twin", "--lineage twin: is the script itself"),
     ("run sq.ray --plan no.plan --history no.plan", "--history no.plan: is the plan itself"),
-    ("sim sq.ray settle.ev --timeline settle.ev", "--timeline settle.ev: is the list of events itself"),
+    ("sim sq.ray settle.ev --timeline settle.ev", "--timeline settle.ev: is the event file itself"),
     ("run sq.ray --timeline new --lineage new", "--lineage new: is the file of --timeline, too"),
     ("run sq.ray --timeline new --lineage ./new", "--lineage ./new: is the file of --timeline, too"),
     ("run sq.ray --timeline in/new --lineage to_in/new", "--lineage to_in/new: is the file of --timeline, too"),
     ("run sq.ray --history old --timeline to_old", "--timeline to_old: is the file of --history, too"),
     ("log sq.ray --page sq.ray", "--page sq.ray: is the script itself"),
-    ("log sq.ray settle.ev --page settle.ev", "--page settle.ev: is the list of events itself"),
+    ("log sq.ray settle.ev --page settle.ev", "--page settle.ev: is the event file itself"),
     ("run sq.ray --lineage new --page ./new", "--page ./new: is the file of --lineage, too"),
     ("run bad.ray --history old --lineage old", "--lineage old: is the file of --history, too"),
 ]
@@ -70,9 +70,13 @@ UNFIT = [
     ("run sq.ray --history nowhere", "nowhere", "it is a link to a file that is not there"),
     ("sim sq.ray settle.ev --page in", "in", "Is a directory (os error 21)"),
     ("sim sq.ray settle.ev --lineage in", "in", "Is a directory (os error 21)"),
-    ("faults sq.ray --out sq.ray", "sq.ray", "File exists (os error 17)"),
-    ("faults sq.ray --out locked", "locked", "Permission denied (os error 13)"),
+    ("faults sq.ray --out sq.ray", "sq.ray", "it is there and is no folder, and a folder is wanted"),
+    ("faults sq.ray --out nowhere", "nowhere", "it is a link to what is not there, and a folder is wanted"),
+    ("faults sq.ray --out sq.ray/new", "sq.ray/new", "Not a directory (os error 20)"),
+    ("faults sq.ray --out linked", "linked/open.ev", "it is a link to a file that is not there"),
+    ("faults sq.ray --out locked", "locked/owner_died.ev", "Permission denied (os error 13)"),
     ("faults sq.ray --out locked/new", "locked/new", "Permission denied (os error 13)"),
+    ("faults sq.ray --out in/../locked/new/new/", "in/../locked/new/new/", "Permission denied (os error 13)"),
 ]
 
 # Inputs that can't be read, and the reason.
@@ -95,6 +99,9 @@ REFUSED = [
     ("run sq.ray --plan bad.plan --history old", "refused 40 line 1\n"),
     ("run bad.ray --timeline old --lineage new", "refused 10 at 26..27\n"),
     ("sim sq.ray bad.plan --timeline old", "refused 40 line 1\n"),
+    ("faults bad.ray --out new", "refused 10 at 26..27\n"),
+    ("faults sq.ray bad.plan --out new/new", "refused 40 line 1\n"),
+    ("faults none.ray --out in/new", "refused 50\nreading none.ray failed: No such file or directory (os error 2)\n"),
 ]
 
 # The name of a refusal and its cause, as docs/refusals.md has them.
@@ -112,7 +119,7 @@ WORDS = {
     16: "BadRetries: A remote call asks for more than 10 retries. The place is the number.",
     17: "Duplicate: A name is given again while it is in scope. The place is the second name.",
     18: "WrongReturns: A call or a return has another number of results than is asked for. The place is the function's name, or the word return.",
-    40: "BadLine: A line of a file of events is no event, or the last line has no line feed. Lines are counted from 1.",
+    40: "BadLine: A line of an event file or a plan is none of its format, or the last line has no line feed. Lines are counted from 1.",
     42: "WrongJob: A claim gave another job than the line of a recorded history says. The file was recorded of another run.",
 }
 
@@ -146,6 +153,7 @@ HINTS = {
 OPERATORS = "[ * / % + - == != < <="
 VALUES = "- get put INT NAME remote [ ( empty len push"
 EVENTS = "claim, commit, deliver, tick, notice, notice-node, evict, lose, kill, kill-node, join and settle"
+RECORDED = "claim, commit, deliver, tick, notice, notice-node, evict, lose, kill, kill-node and join"
 PLANNED = "tick, notice, notice-node, evict, lose, kill, kill-node and join"
 
 # Scripts that are refused: the number, the text, what stands at the place (none: the text's end), and what is told below the carets.
@@ -231,6 +239,22 @@ LISTS = [
     ("migrate", "raysim 2\n0 claim 1 1\n", 1, "the file is of format 2 already"),
     ("run", "0 claim 1\n", 1, f"claim stands in no plan: the run does that by itself; there are {PLANNED}"),
     ("run", "soon kill 1\n", 1, "soon is no number of commits, with which a line of a plan begins"),
+    ("sim", "setle\n", 1, f"there is no event setle, but settle; there are {EVENTS}"),
+    ("sim", "raysim 2\n0 setle\n", 2, f"there is no event setle; there are {RECORDED}"),
+    ("log", "raysim 2\n0 klaim 1 1\n", 2, f"there is no event klaim, but claim; there are {RECORDED}"),
+    ("sim", "raysim 2\n0 settle\n", 2, "a file of format 2 has no settle lines: all of its events are written out"),
+    ("run", "1 kil 2\n", 1, f"there is no event kil, but kill; there are {PLANNED}"),
+    ("run", "1 clam 2\n", 1, f"there is no event clam; there are {PLANNED}"),
+    ("run", "01 kill 2\n", 1, "01 is no number: it has a leading zero"),
+    ("run", "18446744073709551616 kill 2\n", 1, "18446744073709551616 is too large: the number of commits is at most 18446744073709551615"),
+    ("sim", "raysim 2\n01 join\n", 2, "01 is no number: it has a leading zero"),
+    ("sim", "lose 1 o4294967296.1\n", 1, "4294967296 is too large: an object's owner is at most 4294967295"),
+    ("run", "1 evict 1 o1.18446744073709551616\n", 1, "18446744073709551616 is too large: an object's serial is at most 18446744073709551615"),
+    ("sim", "lose 1 o01.2\n", 1, "01 is no number: it has a leading zero"),
+    ("sim", "evict 1 o1.02\n", 1, "02 is no number: it has a leading zero"),
+    ("sim", "evict 1 o1.x\n", 1, "o1.x is no object: one is written as o1.2"),
+    ("sim", "commit 18446744073709551616\n", 1, "18446744073709551616 is too large: the number of a job is at most 18446744073709551615"),
+    ("run", "1 kill w4294967296\n", 1, "w4294967296 is no number: a worker is written by its number alone"),
 ]
 
 
@@ -392,7 +416,12 @@ def try_refusals(trial):
     for words, told in REFUSED:
         trial.run(words, 1, told)
     trial.run(["run", b"\xff.ray"], 1, "a word of the command line is not UTF-8\n")
-    trial.run(["faults", "sq.ray", "--out", ""], 1, unwritten("", "No such file or directory (os error 2)") + NOTHING)
+    missing = "No such file or directory (os error 2)"
+    trial.run(["faults", "sq.ray", "--out", ""], 1, unwritten("''", missing) + NOTHING)
+    trial.run(["run", "sq.ray", "--page", ""], 1, unwritten("''", missing) + NOTHING)
+    for words in [["check", ""], ["sim", "sq.ray", ""], ["run", "sq.ray", "--plan", ""]]:
+        trial.run(words, 1, f"refused 50\nreading '' failed: {missing}\n")
+    trial.run(["explain", ""], 1, "'' is the name of no refusal, fault or trap\n")
     kinds = "is no kind of fault: kill, notice, kill-node, lose and evict are, with commas between them\n"
     trial.run("faults sq.ray --of kill,foo", 1, f"foo {kinds}")
     trial.run(["faults", "sq.ray", "--of", ""], 1, f"an empty word {kinds}")
@@ -492,13 +521,29 @@ def try_explanations(trial):
     tabbed = "refused 10 at 27..28\nbad.ray:2:9\n     return y;\n            ^\n    name: y\n" + f"    {WORDS[10]}\n"
     trial.run("check bad.ray --explain", 1, tabbed)
     for command, text, number, why in LISTS:
-        kind = "the plan" if command == "run" else "the list of events"
+        kind = "the plan" if command == "run" else "the event file"
         FILES["bad.plan"] = text.encode()
         words = "run sq.ray --plan bad.plan" if command == "run" else f"{command} sq.ray bad.plan"
         shown = text.split("\n")[number - 1].replace("\r", "?")
         told = f"refused 40 line {number}\n{kind} bad.plan, line {number}:\n    {shown}\n    {WORDS[40]}\n    why: {why}\n"
         trial.run(f"{words} --explain", 1, told)
         trial.run(words, 1, f"refused 40 line {number}\n")
+    try_unseen_lines(trial)
+
+
+def try_unseen_lines(trial):
+    """Bad lines of what isn't read a second time: of a device, and behind the first 1,000,000 bytes of a file."""
+    for words, kind in [("sim sq.ray {}", "the event file"), ("run sq.ray --plan {}", "the plan")]:
+        told = f"refused 40 line 1\n{kind} /dev/zero, line 1:\n    it is not shown, since the file can't be read a second time\n    {WORDS[40]}\n"
+        trial.run(words.format("/dev/zero --explain"), 1, told)
+    bad = "kill w2"
+    shown = f"    {bad}\n    {WORDS[40]}\n    why: w2 is no number: a worker is written by its number alone\n"
+    unseen = f"    it is not shown, since it does not end in the file's first 1,000,000 bytes\n    {WORDS[40]}\n"
+    # (so many bytes stand before the line; the last one that is shown ends with the millionth)
+    for before, told in [(999_992, shown), (999_993, unseen), (1_000_000, unseen), (1_000_001, unseen)]:
+        FILES["bad.plan"] = f"#{' ' * (before - 2)}\n{bad}\n".encode()
+        trial.run("sim sq.ray bad.plan --explain", 1, f"refused 40 line 2\nthe event file bad.plan, line 2:\n{told}")
+    FILES["bad.plan"] = b"soon tick 1\n"
 
 
 def try_limits(trial):
@@ -513,12 +558,28 @@ def try_limits(trial):
     trial.run(f"run bad.ray {on}", 1, f"refused 37\n{limit}{remedy}")
     trial.run(f"why bad.ray {on}", 1, f"refused 37\n{limit}{remedy}")
     possible = "limit: 1,024 workers in all, 1,000,000 objects, or 64 nodes: the next event would have passed one of them\n"
-    trial.run(f"run bad.ray {on} --threads 2", 1, f"refused 37\n{possible}{remedy}")
-    met = limit.replace("20586 (deliver 20584)", "100000 (deliver 20584, line 1)") + remedy
+    each = "what to do: for workers get some results before the next tasks are begun, or give each more to do; for objects put fewer values; for nodes let fewer join\n"
+    trial.run(f"run bad.ray {on} --threads 2", 1, f"refused 37\n{possible}{each}")
+    FILES["bad.plan"] = b"0 join\n" * 64
+    trial.run("run sq.ray --plan bad.plan", 1, f"refused 37\n{possible}{each}")
+    stopped = "".join(f"{it} is not written, since the run was stopped\n" for it in ["t", "l", "p"])
+    three = "--timeline t --lineage l --page p"
+    trial.run(f"run bad.ray {on} --so-far {three}", 1, f"refused 37\n{limit}{remedy}{stopped}", report=re.compile(rb"main open\n.*", re.S))
+    met = limit.replace("20586 (deliver 20584)", "100000 (deliver 20584)") + remedy
     limit = "limit: 100,000 events, those of settle lines counted\n"
+    alone = "what to do: give each task more to do: each takes some ten events\n"
     remedy = "what to do: leave out lines of which nothing comes, or give each task more to do: each takes some ten events\n"
     # (with a fault at each place the run is settled first, which goes on behind what is refused 37)
-    trial.run(f"faults bad.ray {on} --most 1", 1, f"refused 41\n{limit}{met}{remedy}")
+    trial.run(f"faults bad.ray {on} --most 1 --out new", 1, f"refused 41\n{limit}{met}{alone}")
+    trial.run(f"faults bad.ray settle.ev {on} --most 1", 1, f"refused 41\n{limit}{met.replace('84)', '84, line 1)')}{remedy}")
+    # (a run of 100,002 events has a report, and nothing that is made from its replay)
+    FILES["long.ray"] = b"fn f() -> int { return 1; }\nfn main() -> int { for i in 0 .. 10000 { let unused = get remote f(); } return 0; }\n"
+    long = re.escape(f"refused 41\n{limit}") + r"the last step was in event 100000 \([a-z]+ \d+\)\n" + re.escape(alone)
+    beside, report = r"{} is not written; the report is\n", re.compile(rb"main value 0\n.*", re.S)
+    trial.run("faults long.ray", 1, re.compile(long))
+    trial.run("run long.ray --page p", 1, re.compile(long + beside.format("p")), report)
+    trial.run("run long.ray --threads 1 --lineage l", 1, re.compile(long + beside.format("l")), report)
+    trial.run("run long.ray --lineage l", 0, report=report, changed={"l": is_graph})
     FILES["bad.plan"] = b"tick 1\n" * 100001
     place = "the last step was in event 100000 (tick 1, line 100000)\n"
     trial.run("sim sq.ray bad.plan", 1, f"refused 41\n{limit}{place}{remedy}")
@@ -527,6 +588,7 @@ def try_limits(trial):
     place += "what to do: let fewer nodes join\n"
     trial.run("sim sq.ray bad.plan", 1, f"refused 41\n{limit}{place}{remedy}")
     trial.run("sim sq.ray bad.plan --so-far --nodes 64", 1, f"refused 41\n{limit}{place}{remedy}", report=b"main open\n" + b"refused 37 join\n" * 100000)
+    trial.run(f"sim sq.ray bad.plan --so-far --json {three}", 1, f"refused 41\n{limit}{place}{remedy}{stopped}", report=re.compile(rb"{.*}\n"))
     trial.run("run sq.ray --so-far --threads 2", 1, "--so-far is for no run on threads\n")
 
 
@@ -565,13 +627,15 @@ def try_heads(trial):
     FILES["late.ev"] = FILES["bare.ev"] + b"# cluster: --nodes 9 --slots 9\n"
     FILES["odd.ev"] = whole.replace(usual.encode(), b"--nodes \x1b[2J")
     FILES["same.ray"] = SCRIPT + b"# the same\n"
+    FILES["blank.ev"] = whole.replace(usual.encode(), b"")
     cluster = "note: {} was recorded with {}, not with {}\n"
     script = f"note: whole.ev was recorded of another script than same.ray: its sum is {sum_of(SCRIPT)}, not {sum_of(FILES['same.ray'])}\n"
     for name in ["whole.ev", "bare.ev", "late.ev", "settle.ev"]:
         trial.run(f"sim sq.ray {name}", 0, report=REPORT)
     trial.run("sim sq.ray wide.ev", 0, cluster.format("wide.ev", other, usual), REPORT)
     trial.run("sim sq.ray whole.ev --slots 5", 0, cluster.format("whole.ev", usual, "--nodes 1 --slots 5"), REPORT)
-    trial.run("sim sq.ray odd.ev", 0, cluster.format("odd.ev", "something else", usual), REPORT)
+    for name in ["odd.ev", "blank.ev"]:
+        trial.run(f"sim sq.ray {name}", 0, cluster.format(name, "something else", usual), REPORT)
     trial.run("sim same.ray whole.ev", 0, script, REPORT)
     trial.run("sim same.ray whole.ev --slots 5", 0, cluster.format("whole.ev", usual, "--nodes 1 --slots 5") + script, REPORT)
     FILES["wrong.ev"] = FILES["wide.ev"].replace(b"claim 1 1", b"claim 1 2")
@@ -731,6 +795,10 @@ def try_faults_words(trial, noted):
     behind = ["attempts 1 without a fault, 0 at most, 0 in all", "kill 1 before event 1: main killed"]
     told = table("9 of 70", {"main killed": 9}, *behind)
     trial.run("faults sq.ray settle.ev --most 9 --out found", 0, report=told, changed={"found": lambda it: it == ("main_killed.ev",)})
+    # (a folder is made with those above it, where it has something)
+    trial.run("faults sq.ray settle.ev --most 9 --out new/found/", 0, report=told, changed={"new": lambda it: it == ("found",)})
+    trial.run("faults sq.ray settle.ev --most 9 --out in", 0, report=told, changed={"in": lambda it: it == ("main_killed.ev",)})
+    trial.run("faults sq.ray --of lose --out new/found", 0, report=trial.written("faults sq.ray --of lose"))
 
 
 def try_migrations(trial):
@@ -768,7 +836,7 @@ def try_names(trial):
     reason += b"Example: claim 7 in a run with two workers\n"
     for word in ["30", "NoWorker", "noworker"]:
         trial.run(f"explain {word}", 0, report=reason)
-    limits = b"41 TooLong\nMore than 100,000 events would be applied. A replay that meets it ends with no report.\nExample: a file of 100,001 lines join\n"
+    limits = b"41 TooLong\nMore than 100,000 events would be applied. A replay that meets it ends with no report, unless --so-far asks for the one up to there.\nExample: a file of 100,001 lines join\n"
     limits += b"Limits: 100,000 events, those of settle lines counted; 262,144 lines of a plan that say something; "
     limits += b"1,048,576 bytes of settle lines in all, their line feeds not counted\n"
     trial.run("explain 41", 0, report=limits)
@@ -782,15 +850,15 @@ def try_names(trial):
         trial.run(f"explain {word}", 0, report=re.compile(rb"OwnerDied, a fault\n.+", re.S))
     retries = b"16 BadRetries\nA remote call asks for more than 10 retries. The place is the number.\nExample: let r = remote(11) f();\n"
     trial.run("explain 16", 0, report=retries)
-    limit = b"37 Limit\nThe event would make object 1,000,001, worker 1,025 or node 65. A run that meets it ends with no report; a replay goes on "
-    trial.run("explain 37", 0, report=limit + b"behind it.\nExample: 1,100 remote calls that are all open\n")
+    limit = b"37 Limit\nThe event would make object 1,000,001, worker 1,025 or node 65. A run that meets it ends with no report, "
+    trial.run("explain 37", 0, report=limit + b"unless --so-far asks for the one up to there; a replay goes on behind it.\nExample: 1,100 remote calls that are all open\n")
     trial.run("explain nothing_like_it", 1, "nothing_like_it is the name of no refusal, fault or trap\n")
     trial.run("explain 5", 1, "nothing is refused 5\n")
 
 
 def unable(trial):
     """Why nothing can be tried here, if so."""
-    lacking = [it for it in ["/dev/full", "/dev/null", "/dev/stdout"] if not os.path.exists(it)]
+    lacking = [it for it in ["/dev/full", "/dev/null", "/dev/stdout", "/dev/zero"] if not os.path.exists(it)]
     if lacking:
         return f"There is no {lacking[0]}"
     who = ", as the user nobody, since this is root" if os.geteuid() == 0 else ""

@@ -236,7 +236,8 @@ fn put_piece(alloc: Global, value: &RunValue) -> Result<Piece, PieceError>
     })
 }
 
-/// Runs a task from its start on the answers that it has so far, its births taking ids from `base` on.
+/// Runs a task from its start on the answers that it has so far, its births taking ids from `base` on. An error is want of memory, or `Broken`, which no
+/// checked script meets where arguments and answers are of the kinds asked for.
 pub fn run_piece(
     alloc: Global,
     script: &Compiled,
@@ -280,7 +281,8 @@ pub fn run_piece(
 }
 
 /// Goes on from where a task waits that has so many results beside the first, with the answer that it waits for. What is given is what the task does from
-/// there on.
+/// there on. An error is want of memory, or `Broken`, which no checked script meets where arguments and answers are of the kinds
+/// asked for; the frame is let go of then.
 pub fn go_on(
     alloc: Global,
     script: &Compiled,

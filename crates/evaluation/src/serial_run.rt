@@ -14,7 +14,7 @@ use script_check::Checked;
 use std::alloc::Global;
 
 /// Runs main with every remote call made at once, as a plain call whose trap stays in the reference. Gives what main
-/// prints, in order, and its value or its trap.
+/// prints, in order, and its value or its trap. The only error is want of memory, and nothing is told then.
 pub fn run_serial(alloc: Global, script: &Checked) -> Result<SerialRun, NoMemory>
     ensures prints { IfOk result (λ r. map value_of r.prints.items ≡ prints_of (serial_trace (serial_run (script_of script.now)))) }
     ensures end { IfOk result (λ r. content_of r.end ≡ first_outcome (serial_end (serial_run (script_of script.now)))) }

@@ -6,4 +6,6 @@ mod Settles
 pub mod Rows
 pub mod Readers
 pub mod Histories
+mod Logs
+mod LineNumbers
 mod BothFormats

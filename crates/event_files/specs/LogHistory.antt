@@ -1,5 +1,5 @@
 -- The recorded history of a run.
-use Rattle.std.specs.Prelude.{ℕ, ◌+◌, Bool, if◌then◌else◌, List, [], ◌∷◌, Option, Some, None}
+use Rattle.std.specs.Prelude.{◌≡◌, ◌<◌, ℕ, ◌+◌, Bool, if◌then◌else◌, List, [], ◌∷◌, Option, Some, None, slice_get}
 use Rattle.event_log.specs.Entries.{Event, Claim, Entry, In}
 use Rattle.event_log.specs.Events.{refused_next}
 use Rattle.event_files.specs.declared.recorded.RecordedEvent.{RecordedEvent}
@@ -24,3 +24,7 @@ recorded_from claims (x ∷ rest) = recorded_from claims rest
 -- the events of a log
 abbrev pub recorded_in : List Entry → List RecordedEvent
 recorded_in log = recorded_from 0 log
+
+-- each event of the log came from one of the seats that a history may name, 0 to 8
+abbrev pub AreSeated : List Entry → Type 0
+AreSeated log = (k : ℕ) (e : Event) (seat : ℕ) → slice_get log k ≡ Some (In e seat) → seat < 9

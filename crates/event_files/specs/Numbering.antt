@@ -1,5 +1,6 @@
 -- The numbers of the lines of a file that say something.
-use Rattle.std.specs.Prelude.{ℕ, ◌+◌, ◌==◌, Bool, true, if◌then◌else◌, List, [], ◌∷◌, ◌++◌}
+use Rattle.std.specs.Prelude.{◌≡◌, ℕ, ◌+◌, ◌==◌, Bool, true, if◌then◌else◌, List, [], ◌∷◌, ◌++◌, length}
+use Rattle.event_files.specs.Files.{Row, Passed, Said}
 
 -- with that byte begins a line that says something
 abbrev pub noted : ℕ → Bool → ℕ → List ℕ
@@ -16,3 +17,15 @@ numbers_from number begins (b ∷ bytes) = noted number begins b ++ numbers_from
 -- counted from 1, those that are passed over too
 abbrev pub line_numbers : List ℕ → List ℕ
 line_numbers bytes = numbers_from 1 true bytes
+
+-- ---- of rows
+
+-- the numbers of those that say something; `number` is that of the first row
+abbrev pub numbers_said : {A : Type 0} → ℕ → List (Row A) → List ℕ
+numbers_said number [] = []
+numbers_said number (Passed bytes ∷ rows) = numbers_said (number + 1) rows
+numbers_said number (Said a ∷ rows) = number ∷ numbers_said (number + 1) rows
+
+-- of each thing that is said the number of its row, and no others
+abbrev pub AreNumbersOf : {A : Type 0} → ℕ → List (Row A) → List A → List ℕ → Type 0
+AreNumbersOf number rows says numbers = (numbers ≡ numbers_said number rows) × (length numbers ≡ length says)

@@ -2,8 +2,10 @@
 
 ghost use Rattle.std.specs.Prelude.{◌≡◌, ◌+◌, ◌<◌, ◌^◌, IfOk, drop, string_bytes};
 ghost use Rattle.event_log.specs.Events.{refused_next};
-ghost use Rattle.event_files.specs.Recorded.{recorded_file};
-ghost use Rattle.event_files.specs.LogHistory.{claims_behind, given_by, recorded_in};
+ghost use Rattle.event_files.specs.Recorded.{AreRecorded, IsEventFile, IsGiven, recorded_file};
+ghost use Rattle.event_files.specs.declared.event_file.EventFile.TheVariants as files;
+ghost use Rattle.event_files.specs.Lines.{IsEvent};
+ghost use Rattle.event_files.specs.LogHistory.{AreSeated, claims_behind, given_by, recorded_in};
 
 use crate::recorded::{RecordedEvent, print_recorded};
 use log_entries::{Entry, Event};
@@ -21,7 +23,8 @@ fn is_refused_at(log: &[Entry], place: usize) -> bool
 
 fn given_by(event: Event, refused: bool, claims: u64) -> Option<u64>
     requires { claims + 1 < 2 ^ 64 }
-    ensures { result ≡ given_by event refused claims }
+    ensures gives { result ≡ given_by event refused claims }
+    ensures fits { IsEvent event × IsGiven event result }
 {
     match event {
         Event::Claim(_) => Some(if refused { 0 } else { claims + 1 }),
@@ -46,7 +49,8 @@ fn claims_behind(event: Event, refused: bool, claims: u64) -> u64
 
 /// The events of a log, oldest first.
 fn recorded_in(alloc: Global, log: &[Entry]) -> Result<Vec<RecordedEvent>, AllocError>
-    ensures { IfOk result (λ events. events.items ≡ recorded_in log.now) }
+    ensures says { IfOk result (λ events. events.items ≡ recorded_in log.now) }
+    ensures fits { IfOk result (λ events. AreSeated log.now → AreRecorded events.items) }
 {
     let mut events = Vec::new(alloc);
     let mut claims = 0;
@@ -65,9 +69,10 @@ fn recorded_in(alloc: Global, log: &[Entry]) -> Result<Vec<RecordedEvent>, Alloc
 }
 
 /// The events of a log as an event file of format 2, oldest first, refused ones too, each with its seat, and a claim with the number of the job that
-/// it gave (docs/event-files.md).
+/// it gave (docs/event-files.md). Where the events came from seats 0 to 8, the text is read as these events.
 pub fn history(alloc: Global, log: &[Entry]) -> Result<String, AllocError>
-    ensures { IfOk result (λ text. string_bytes text ≡ recorded_file (recorded_in log.now)) }
+    ensures written { IfOk result (λ text. string_bytes text ≡ recorded_file (recorded_in log.now)) }
+    ensures is_file { IfOk result (λ text. AreSeated log.now → IsEventFile (string_bytes text) (files.Recorded (recorded_in log.now))) }
 {
     let events = recorded_in(alloc, log)?;
     print_recorded(alloc, events.as_slice())

@@ -27,7 +27,7 @@ fn number_behind(number: usize, byte: u8) -> usize
 }
 
 /// The numbers of the lines of an event file, or of a plan, that say something: lines are counted from 1, those that are passed over too. There
-/// is one for each line that `parse_events` answers, in their order.
+/// is one for each line that `parse_events` answers, in their order; of a file of format 2 there is one more, that of its first line.
 pub fn line_numbers(alloc: Global, text: &[u8]) -> Result<Seq<usize>, AllocError>
     ensures { IfOk result (λ numbers. numbers ≡ line_numbers text.now) }
 {

@@ -4,6 +4,6 @@
 mod replayed;
 mod trying;
 
-pub use protocol_board::{Board, Cluster, Core, Replay, ReplayStop, Reply, drive};
+pub use protocol_board::{Board, Cluster, Core, Replay, ReplayStop, Reply, drive, no_numbers};
 pub use replayed::{Replayed, replay_lines};
 pub use trying::{TrialWatcher, try_lists};

@@ -19,7 +19,7 @@ pub struct Replayed<S: ScriptName> {
     pub is_stopped: bool,
 }
 
-/// Applies the lines to a run of the script that begins on the cluster: see `Replay::play`.
+/// Applies the lines to a run of the script that begins on the cluster: see `Replay::play`. The only error is want of memory, and the run is let go of then.
 pub fn replay_lines<S: ScriptName>(
     alloc: Global,
     script: &Compiled,

@@ -64,7 +64,7 @@ fn try_list<S: ScriptName>(
 }
 
 /// Replays each list of the history's events, on a run of the script that begins on the cluster, one after the other, and answers of each how main ended
-/// and how many attempts there were. The watcher is told behind each list, and changes nothing.
+/// and how many attempts there were. The watcher is told behind each list, and changes nothing. The only error is want of memory, and nothing is answered then.
 pub fn try_lists<S: ScriptName, L: TrialWatcher>(
     alloc: Global,
     script: &Compiled,

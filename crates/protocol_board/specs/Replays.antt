@@ -90,9 +90,19 @@ pub record Step (script : Script) (before : Play) (e : Event) (seat : ℕ) (afte
   pub same_line : after.begun ≡ before.begun
   pub lines : after.lines ≡ before.lines ++ before.begun ∷ []
 
--- an event at which a replay stops: there is no memory for what is done on its job or for its answer, or 100,000 events were applied
+-- what stays where there is no memory for what is done on the event's job, for its answer, or for what is kept of it: all that was told of the events before
+pub record FindsNoMemory (script : Script) (before : Play) (e : Event) (seat : ℕ) (after : Play) : Type 0 where
+  pub run : (after.run ≡ before.run) ⊎ ((told : Reply) × IsAnswered script before e seat after.run told)
+  -- the job that the event hands in is gone, and one that is given out may be
+  pub jobs : (after.jobs ≡ left_by e before.jobs) ⊎ ((told : Reply) × (after.jobs ≡ with_given told (left_by e before.jobs)))
+  pub counted : before.applied ≤ after.applied
+  pub sent : (after.sent ≡ before.sent) ⊎ (after.sent ≡ before.sent ++ length after.run.whole.network ∷ [])
+  pub same_line : after.begun ≡ before.begun
+  pub lines : after.lines ≡ before.lines
+
+-- an event at which a replay stops: there is no memory, or 100,000 events were applied
 abbrev pub StopsAt : Script → Play → Event → ℕ → Play → ReplayStop → Type 0
-StopsAt script before e seat after stops.NoMemory = (after.run ≡ before.run) ⊎ ((told : Reply) × IsAnswered script before e seat after.run told)
+StopsAt script before e seat after stops.NoMemory = FindsNoMemory script before e seat after
 StopsAt script before e seat after stops.TooLong = (after ≡ before) × (100000 ≤ before.applied)
 StopsAt script before e seat after stops.WrongJob = ⊥
 

@@ -3,7 +3,7 @@
 ghost use Rattle.std.specs.Prelude.{◌≡◌, IfOk, string_bytes};
 ghost use Rattle.protocol.specs.Settling.{next};
 ghost use Rattle.protocol_core.specs.Own.{GivesOwn, IsOwn};
-ghost use Rattle.protocol_core.specs.Limits.{Limits};
+ghost use Rattle.protocol_core.specs.Limits.{IsWithin, Limits};
 ghost use Rattle.protocol_core.specs.Owed.{Pays};
 ghost use Rattle.protocol_core.specs.Steps.{Answers, AnswersAsShown, reply_of};
 ghost use Rattle.report_text.specs.of_report_lines.Main.{status_of};
@@ -66,6 +66,7 @@ impl<S: ScriptName> Board<S> {
         ensures shown { AnswersAsShown S.script self.old event done self.new (reply_of result) }
         ensures paid { Pays S.script self.old event seat done self.new (reply_of result) }
         ensures limited { Limits S.script self.old event seat done self.new (reply_of result) }
+        ensures own { GivesOwn self.new.log (reply_of result) }
         ensures meant { IsSoundLog S.script self.new }
     {
         self.core.apply(alloc, event, seat, done)
@@ -101,6 +102,7 @@ impl<S: ScriptName> Board<S> {
     pub fn log(&self) -> &[Entry]
         ensures log { result.now ≡ self.now.log }
         ensures meant { IsSoundLog S.script self.now }
+        ensures within { IsWithin S.script self.now }
     {
         self.core.log()
     }

@@ -5,11 +5,13 @@
 mod board;
 mod driving;
 mod given;
+mod numbers;
 mod replay;
 mod stopped;
 
 pub use crate::board::Board;
 pub use driving::drive;
+pub use numbers::no_numbers;
 pub use protocol_core::{Cluster, Core, Reply};
 pub use replay::Replay;
 pub use stopped::ReplayStop;

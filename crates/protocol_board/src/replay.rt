@@ -1,6 +1,6 @@
 // The replay of an event file.
 
-ghost use Rattle.std.specs.Prelude.{◌≡◌, ◌+◌, ◌<◌, ◌^◌, [], IfOk, OnOk, IfErr};
+ghost use Rattle.std.specs.Prelude.{◌≡◌, ◌+◌, ◌<◌, ◌^◌, ◌⊎◌, ◌++◌, ◌∷◌, [], IfOk, IfErr, OnErr, OnOk, length};
 ghost use Rattle.script_check.specs.Trees.{script_of};
 ghost use Rattle.protocol.specs.Settling.{next};
 ghost use Rattle.protocol_board.specs.Replays.{ComesToRest, LinePlays, LineStops, PlayStops, Plays, SettleStops, Step, StopsAt, from_first};
@@ -9,6 +9,7 @@ ghost use Rattle.protocol_board.specs.Views.{noted};
 
 use crate::board::Board;
 use crate::given::{given_by, hand_in, is_same, keep, run_job};
+use crate::numbers::no_numbers;
 use crate::stopped::ReplayStop;
 use event_files::{EventFile, Line, MOST_EVENTS, RecordedEvent};
 use ids::WorkerId;
@@ -19,18 +20,6 @@ use segment::{Compiled, Job, ScriptName};
 use sequence::Seq;
 use std::alloc::{AllocError, Global};
 use std::marker::Model;
-
-/// For how many events the counts of messages and the lines have room from the start: a list that grows is copied.
-const EVENTS: usize = 4096;
-
-/// The empty list; there is room for some numbers where there is memory for it.
-fn no_numbers(alloc: Global) -> Seq<usize>
-    ensures { result ≡ [] }
-{
-    let mut numbers = Seq::new(alloc);
-    let _ = numbers.items.reserve(EVENTS);
-    numbers
-}
 
 /// A run to which the events of a file are applied, one after the other. With the first commit of a job comes what was done on it, and
 /// with every other event nothing.
@@ -119,6 +108,8 @@ impl<S: ScriptName> Replay<S> {
     fn note(&mut self) -> Result<(), AllocError>
         ensures noted { OnOk result (self.new ≡ noted self.old) }
         ensures run { self.new.run ≡ self.old.run }
+        ensures else_same { OnErr result (self.new ≡ record self.old { sent = self.new.sent }) }
+        ensures sent { OnErr result ((self.new.sent ≡ self.old.sent) ⊎ (self.new.sent ≡ self.old.sent ++ length self.old.run.whole.network ∷ [])) }
     {
         let count = self.board.messages().len();
         self.sent.push(count)?;
@@ -215,7 +206,8 @@ impl<S: ScriptName> Replay<S> {
     /// until it names none; see docs/protocol.md, "The settle rule". Each event comes from seat 0, and with the first commit of a job
     /// comes what was done on it. The lines are counted from 1.
     ///
-    /// It stops with `NoMemory` where an event finds no memory, and with `TooLong` before event 100,001.
+    /// It stops with `NoMemory` where an event, its job, or a list of the replay's own finds no memory, and with `TooLong` before event 100,001. Behind
+    /// `NoMemory` what was told of the events before stands, but a job may be lost: nothing is to be played on it any more.
     pub fn play(
         &mut self,
         alloc: Global,

@@ -1,4 +1,4 @@
-//! The run of a script on any number of nodes: one event at a time.
+//! The run of a script on a cluster of 1 to 64 nodes: one event at a time.
 #![tactic(auto)]
 
 mod cluster;

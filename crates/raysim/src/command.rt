@@ -165,7 +165,7 @@ fn over_sim<R: Files + Print + Eprint + AllocGlobal>(rt: &R, options: &SimOption
     let paths = Paths {
         script: options.script,
         beside: Some(options.events),
-        beside_name: "the list of events",
+        beside_name: "the event file",
         history: None,
         timeline: options.timeline,
         lineage: options.lineage,
@@ -227,7 +227,7 @@ fn over_log<R: Files + Print + Eprint + AllocGlobal + Clock>(
     let paths = Paths {
         script: options.script,
         beside: options.events,
-        beside_name: "the list of events",
+        beside_name: "the event file",
         history: None,
         timeline: None,
         lineage: None,

@@ -16,6 +16,7 @@ use raysim_files::{WithError, try_output, write_whole};
 use raysim_options::FaultsOptions;
 use refusal_reasons::ListKind;
 use std::alloc::{AllocError, Global};
+use std::io::{Error, ErrorKind};
 use std::process::ExitCode;
 use std::rt::{Clock, Files};
 use std::{fs, io};
@@ -231,7 +232,7 @@ fn read_texts<R: Files + Eprint + AllocGlobal>(
     }
 }
 
-/// What is shown of the list of events, if that is asked for.
+/// What is shown of the event file, if that is asked for.
 fn shown_bytes<R: Files + AllocGlobal>(rt: &R, options: &FaultsOptions<'_>) -> Vec<u8> {
     match options.events {
         Some(path) if options.explain => first_bytes(rt, path),
@@ -266,40 +267,90 @@ fn path_in(alloc: Global, folder: &str, name: &str) -> Result<String, AllocError
     format!(in alloc; "{folder}/{name}")
 }
 
-/// Whether each list can be written in the folder, which is made unless it is there. Where one can't, that is told.
+/// Whether each list can be written in the folder, as far as that can be seen before. It needn't be there yet. Where one can't, that is told.
 fn is_fit<R: Files + Eprint + AllocGlobal>(rt: &R, folder: &str) -> bool {
-    match taken_path(rt, folder) {
-        Ok(None) => true,
-        Ok(Some(path)) => {
-            fault(rt, path.as_str(), "is there already, and isn't overwritten");
-            false
+    match fs::metadata(rt, folder) {
+        Ok(found) if found.is_dir() => are_free(rt, folder),
+        Ok(_) => {
+            let message = "it is there and is no folder, and a folder is wanted";
+            let tried = Err(Error::new(ErrorKind::AlreadyExists, message));
+            went_well(rt, folder, tried)
         }
+        Err(error) if error.kind() == ErrorKind::NotFound => {
+            went_well(rt, folder, try_folder(rt, folder))
+        }
+        Err(error) => went_well(rt, folder, Err(error)),
+    }
+}
+
+/// Whether what was tried of a path, to which something is to be written, went well. Where it did not, that is told.
+fn went_well<R: Eprint + AllocGlobal>(rt: &R, path: &str, tried: io::Result<()>) -> bool {
+    match tried {
+        Ok(()) => true,
         Err(error) => {
-            stopped(rt, Stop::writing(folder, error));
+            stopped(rt, Stop::writing(path, error));
             let _ = eprintln!(rt; "nothing was run or written");
             false
         }
     }
 }
 
-/// The first file that would be written and is there already. It fails where one couldn't be written, as far as that can be seen before.
-fn taken_path<R: Files + AllocGlobal>(rt: &R, folder: &str) -> io::Result<Option<String>> {
-    if folder.is_empty() {
-        // A list would go to the root; no file has that name, and the system says so.
-        try_output(rt, folder)?;
-    }
-    fs::create_dir_all(rt, folder)?;
+/// Whether each list can be written in a folder that is there, and none is there already.
+fn are_free<R: Files + Eprint + AllocGlobal>(rt: &R, folder: &str) -> bool {
     for kind in ENDS {
-        let path = path_in(rt.alloc(), folder, file_name(kind))?;
-        if fs::exists(rt, path.as_str())? {
-            return Ok(Some(path));
+        let Ok(path) = path_in(rt.alloc(), folder, file_name(kind)) else {
+            no_memory(rt);
+            return false;
+        };
+        if !is_free(rt, path.as_str()) {
+            return false;
         }
-        try_output(rt, path.as_str())?;
     }
-    Ok(None)
+    true
 }
 
-/// Writes the first list for each end that there is, and says with which status the program ends.
+/// Whether a list can be written to a file that isn't there yet.
+fn is_free<R: Files + Eprint + AllocGlobal>(rt: &R, path: &str) -> bool {
+    match fs::exists(rt, path) {
+        Ok(false) => went_well(rt, path, try_output(rt, path)),
+        Ok(true) => {
+            fault(rt, path, "is there already, and isn't overwritten");
+            false
+        }
+        Err(error) => went_well(rt, path, Err(error)),
+    }
+}
+
+/// Fails where a folder that isn't there couldn't be made, as far as that can be seen before: so of an empty name. It leaves nothing behind.
+fn try_folder<R: Files + AllocGlobal>(rt: &R, folder: &str) -> io::Result<()> {
+    if fs::symlink_metadata(rt, folder).is_ok() {
+        let message = "it is a link to what is not there, and a folder is wanted";
+        return Err(Error::new(ErrorKind::NotFound, message));
+    }
+    try_output(rt, first_missing(rt, folder))
+}
+
+/// The topmost folder that would be made for a path that isn't there.
+fn first_missing<'a, R: Files>(rt: &R, path: &'a str) -> &'a str {
+    let mut missing = path;
+    for _name in 0..path.len() {
+        let Some((above, _)) = missing.rsplit_once('/') else {
+            return missing;
+        };
+        if !is_missing(rt, above) {
+            return missing;
+        }
+        missing = above;
+    }
+    missing
+}
+
+/// Whether nothing has that name, which may be empty in front of the root's.
+fn is_missing<R: Files>(rt: &R, path: &str) -> bool {
+    !path.is_empty() && fs::symlink_metadata(rt, path).is_err()
+}
+
+/// Writes the first list for each end that there is into the folder, which is made where it isn't there, and says with which status the program ends.
 fn write_lists<R: Files + Eprint + AllocGlobal>(
     rt: &R,
     options: &FaultsOptions<'_>,
@@ -312,16 +363,17 @@ fn write_lists<R: Files + Eprint + AllocGlobal>(
         let Ok(path) = path_in(rt.alloc(), folder, file_name(kind)) else {
             return no_memory(rt);
         };
-        if let Err(error) = write_list(rt, path.as_str(), kind, tried) {
+        if let Err(error) = write_list(rt, folder, path.as_str(), kind, tried) {
             return stopped(rt, Stop::writing(path.as_str(), error));
         }
     }
     ExitCode::from(tried.status)
 }
 
-/// Writes the first list that ended so to a file, whole or not at all, if there is one.
+/// Writes the first list that ended so to a file in the folder, whole or not at all, if there is one.
 fn write_list<R: Files + AllocGlobal>(
     rt: &R,
+    folder: &str,
     path: &str,
     kind: EndKind,
     tried: &TriedFaults,
@@ -330,5 +382,6 @@ fn write_list<R: Files + AllocGlobal>(
         return Ok(());
     };
     let text = list_file(rt.alloc(), tried.events.as_slice(), &first)?;
+    fs::create_dir_all(rt, folder)?;
     write_whole(rt, path, text.as_bytes())
 }

@@ -63,8 +63,11 @@ pub fn headed(
     with_head(alloc, head.as_str(), history)
 }
 
-/// What a history says, unless it has bytes that no such line has.
+/// What a history says, unless it says nothing or has bytes that no such line has.
 fn shown(said: &[u8]) -> &str {
+    if said.is_empty() {
+        return "something else";
+    }
     for byte in said {
         if *byte < 32 || *byte > 126 {
             return "something else";
@@ -131,7 +134,7 @@ pub fn tell_length<R: Eprint>(rt: &R, file: &str, history: &[u8]) {
     let events = lines.saturating_sub(1);
     if events > MOST_EVENTS {
         let _ = eprintln!(rt;
-            "note: {file} has {events} events, and no more than {MOST_EVENTS} are replayed: sim, log, why and state stop there (refused 41)"
+            "note: {file} has {events} events, and no more than {MOST_EVENTS} are replayed: sim, log, why, state and faults stop there (refused 41)"
         );
     }
 }

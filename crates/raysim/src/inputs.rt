@@ -12,7 +12,7 @@ use std::fs;
 use std::rt::Files;
 
 /// How many bytes of a file are read once more, to show a line of it.
-const MOST_SHOWN: usize = 1_000_000;
+pub const MOST_SHOWN: usize = 1_000_000;
 
 /// Reads a script, up to its bound.
 pub fn read_script_file<'a, R: Files + AllocGlobal>(
@@ -29,7 +29,7 @@ pub fn read_script_file<'a, R: Files + AllocGlobal>(
     }
 }
 
-/// A list of events as a text of the same lines, and how its file begins.
+/// An event file as a text of the same lines, and how its file begins.
 #[derive(Drop)]
 pub struct ReadEvents {
     /// A text of the list's lines, as far as a replay may go.
@@ -38,7 +38,7 @@ pub struct ReadEvents {
     pub front: Vec<u8>,
 }
 
-/// Reads a list of events of either format, as far as a replay may go, and gives it as a text of the same lines. Where it can't be read, or is
+/// Reads an event file of either format, as far as a replay may go, and gives it as a text of the same lines. Where it can't be read, or is
 /// refused, the script's refusal counts, if it has one.
 pub fn read_events<'a, R: Files + AllocGlobal>(
     rt: &R,
@@ -61,7 +61,7 @@ pub fn read_events<'a, R: Files + AllocGlobal>(
     }
 }
 
-/// Reads a list of events of format 1 alike.
+/// Reads an event file of format 1 alike.
 pub fn read_plain_events<'a, R: Files + AllocGlobal>(
     rt: &R,
     script: &[u8],

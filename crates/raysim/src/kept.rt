@@ -74,7 +74,7 @@ fn recorded_text(
     Ok(text)
 }
 
-/// A list of events as it was read, as far as it was kept.
+/// An event file as it was read, as far as it was kept.
 pub fn events_text(alloc: Global, kept: &KeptEvents) -> Result<String, AllocError> {
     match &kept.says {
         EventFile::Lines(lines) => lines_text(alloc, lines, &kept.numbers),

@@ -159,9 +159,9 @@ impl<'a, R: Eprint + AllocGlobal + Clock> Life<'a, R> {
         }
     }
 
-    /// Whether a last line is told where the run is over: a line stands there already, or is asked for, and there was a run.
+    /// Whether a last line is told where the run is over: one was told already, or is asked for, and there was a run.
     fn is_last_due(&self) -> bool {
-        self.line.is_open || (self.line.telling == Telling::FromTheStart && self.seen > 0)
+        self.line.last.is_some() || (self.line.telling == Telling::FromTheStart && self.seen > 0)
     }
 
     /// Tells how far the run is, so long after its start.
@@ -205,6 +205,7 @@ impl<R: Eprint + AllocGlobal + Clock> Watcher for Life<'_, R> {
             }
         }
         self.line.telling = Telling::Never;
+        self.line.last = None;
         self.line.close();
     }
 }

@@ -2,6 +2,7 @@
 
 use crate::reasons::{Course, Known};
 use crate::told::{Printed, stopped};
+use crate::views::Views;
 use raysim_commands::{CommandRefusal, Form, SoFar, Tracked, put_all, run_so_far, sim_so_far};
 use raysim_files::WithError;
 use std::io;
@@ -13,11 +14,12 @@ const POSSIBLE: &str =
 /// The list of a run that is settled.
 pub const SETTLED: &[u8] = b"settle\n";
 
-const FEWER_AT_ONCE: &str =
-    "get some results before the next tasks are begun, or give each task more to do";
+const FEWER_OF_EACH: &str =
+    "for workers get some results before the next tasks are begun, or give each more to do; for objects put fewer values; for nodes let fewer join";
 
-const FEWER_EVENTS: &str =
-    "leave out lines of which nothing comes, or give each task more to do: each takes some ten events";
+const LEAVE_OUT: &str = "leave out lines of which nothing comes, or ";
+
+const FEWER_EVENTS: &str = "give each task more to do: each takes some ten events";
 
 /// Tells which limit a run met, in which event, and what to do.
 pub fn tell_limit<R: Eprint + AllocGlobal>(rt: &R, code: u16, known: &Known<'_, '_>) {
@@ -52,12 +54,26 @@ fn so_far<R: AllocGlobal>(
 fn tell_place<R: Eprint + AllocGlobal>(rt: &R, known: &Known<'_, '_>) -> bool {
     match so_far(rt, known, Form::Limit) {
         Some(Ok(met)) => {
-            let text = met.text.as_str();
-            let _ = eprint!(rt; "{text}");
+            write_place(rt, met.text.as_str(), known.has_lines());
             true
         }
         _ => false,
     }
+}
+
+/// What stands before and behind the line of an event in a text.
+fn around_line(text: &str) -> Option<(&str, &str)> {
+    let (before, rest) = text.split_once(", line ")?;
+    let (_, behind) = rest.split_once(')')?;
+    Some((before, behind))
+}
+
+/// Writes the text of a limit or of a last event, without the event's line where the events are those of no file.
+fn write_place<R: Eprint>(rt: &R, text: &str, has_lines: bool) {
+    let _ = match around_line(text) {
+        Some((before, behind)) if !has_lines => eprint!(rt; "{before}){behind}"),
+        _ => eprint!(rt; "{text}"),
+    };
 }
 
 fn tell_met<R: Eprint + AllocGlobal>(rt: &R, known: &Known<'_, '_>) {
@@ -68,32 +84,48 @@ fn tell_met<R: Eprint + AllocGlobal>(rt: &R, known: &Known<'_, '_>) {
 
 /// Tells which limits there are.
 fn tell_possible<R: Eprint>(rt: &R) {
-    let _ = eprintln!(rt; "limit: {POSSIBLE}\nwhat to do: {FEWER_AT_ONCE}");
+    let _ = eprintln!(rt; "limit: {POSSIBLE}\nwhat to do: {FEWER_OF_EACH}");
 }
 
 /// Tells that there were too many events, which was the last, and what to do.
 fn tell_too_long<R: Eprint + AllocGlobal>(rt: &R, known: &Known<'_, '_>) {
     let _ = eprintln!(rt; "limit: 100,000 events, those of settle lines counted");
     tell_place(rt, known);
-    let _ = eprintln!(rt; "what to do: {FEWER_EVENTS}");
+    let before = if known.has_lines() { LEAVE_OUT } else { "" };
+    let _ = eprintln!(rt; "what to do: {before}{FEWER_EVENTS}");
 }
 
-/// Prints the report of a run that was stopped, up to there, where the refusal says that a limit stopped it.
+/// Prints the report of a run that was stopped, up to there, where that is asked for and the refusal says that a limit stopped it, and tells before
+/// that no other view is written.
 pub fn print_so_far<R: Print + Eprint + AllocGlobal>(
     rt: &R,
     done: &Result<u8, CommandRefusal>,
     known: &Known<'_, '_>,
     form: Form,
+    views: &Views<'_>,
 ) {
+    if !views.so_far {
+        return;
+    }
     let Err(CommandRefusal::Stopped { .. }) = done else {
         return;
     };
+    tell_unwritten(rt, views.timeline);
+    tell_unwritten(rt, views.lineage);
+    tell_unwritten(rt, views.page);
     let Some(found) = so_far(rt, known, form) else {
         return;
     };
     let printed = print_found(rt, found);
     if let Some(stop) = printed.stop() {
         stopped(rt, stop);
+    }
+}
+
+/// Tells that a view of a run that was stopped isn't written, if it was asked for.
+fn tell_unwritten<R: Eprint>(rt: &R, file: Option<&str>) {
+    if let Some(file) = file {
+        let _ = eprintln!(rt; "{file} is not written, since the run was stopped");
     }
 }
 

@@ -9,7 +9,7 @@ use std::rt::Files;
 pub struct Paths<'a> {
     /// The script's file, which is read.
     pub script: &'a str,
-    /// The list of events or the plan, if there is one.
+    /// The event file or the plan, if there is one.
     pub beside: Option<&'a str>,
     /// What that file is called where a clash is told.
     pub beside_name: &'a str,

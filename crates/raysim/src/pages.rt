@@ -1,5 +1,6 @@
 // The page of a run.
 
+use crate::reasons::Known;
 use crate::told::tell_beside;
 use crate::views::{Views, write_done};
 use raysim_commands::{Cluster, CommandRefusal, Tracked, page};
@@ -32,7 +33,8 @@ pub fn is_page_written<R: Files + Eprint + AllocGlobal>(
     match write_done(rt, path, done, shown.as_slice()) {
         Ok(()) => true,
         Err(stop) => {
-            tell_beside(rt, stop, path, report);
+            let known = Known::of_replay(script, events, cluster);
+            tell_beside(rt, stop, &known, path, report);
             false
         }
     }

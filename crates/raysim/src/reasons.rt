@@ -1,9 +1,15 @@
 // What is told below a refusal's first line.
 
+use crate::inputs::MOST_SHOWN;
 use crate::limits::tell_limit;
 use raysim_commands::{Cluster, CommandRefusal};
 use raysim_explain::{Excerpt, RefusalCause};
-use refusal_reasons::{Letters, ListKind, Refused, refused_line, script_reason};
+use refusal_reasons::{Letters, LineReason, ListKind, Refused, refused_line, script_reason};
+
+/// Why a line isn't shown.
+const NOT_AGAIN: &str = "it is not shown, since the file can't be read a second time";
+
+const TOO_FAR: &str = "it is not shown, since it does not end in the file's first 1,000,000 bytes";
 
 /// How the events of a run come.
 #[derive(Clone, Copy, Debug, PartialEq, Eq)]
@@ -16,11 +22,11 @@ pub enum Course {
     Replayed(Cluster),
 }
 
-/// A list of events or a plan: its file and what it holds.
+/// An event file or a plan: its file and what it holds.
 #[derive(Clone, Copy)]
 pub struct List<'a, 'b> {
     pub kind: ListKind,
-    /// The file's name, as it is told.
+    /// The file's name, as it is told; empty where the events are of no file.
     pub file: &'a str,
     /// The file's bytes, as far as they were read.
     pub text: &'b [u8],
@@ -36,7 +42,7 @@ pub struct Known<'a, 'b> {
     pub script: &'a str,
     /// The script's text, empty where it wasn't read.
     pub text: &'b [u8],
-    /// The list of events or the plan, if there is one.
+    /// The event file or the plan, if there is one.
     pub list: Option<List<'a, 'b>>,
     /// How the events come, where a run was begun.
     pub course: Option<Course>,
@@ -51,6 +57,34 @@ impl Known<'_, '_> {
             text: b"",
             list: None,
             course: None,
+        }
+    }
+
+    /// What is known of a replay of these events, which stand in no file, on this cluster; nothing is asked for.
+    pub fn of_replay<'b>(
+        script: &'b [u8],
+        events: &'b [u8],
+        cluster: Cluster,
+    ) -> Known<'static, 'b> {
+        let list = List {
+            kind: ListKind::Events,
+            file: "",
+            text: events,
+        };
+        Known {
+            explain: false,
+            script: "",
+            text: script,
+            list: Some(list),
+            course: Some(Course::Replayed(cluster)),
+        }
+    }
+
+    /// Whether the events are those of a file, so that its lines may be named.
+    pub fn has_lines(&self) -> bool {
+        match self.list {
+            Some(list) => !list.file.is_empty(),
+            None => false,
         }
     }
 }
@@ -114,17 +148,37 @@ fn tell_of_script<R: Eprint + AllocGlobal>(
     }
 }
 
-/// Tells which line of which file is refused, and why.
+/// The line of that number, if what was read once more of the file has it to its end; else why it isn't shown.
+fn whole_line<'b>(list: &List<'_, 'b>, number: u64) -> Result<Refused<'b>, &'static str> {
+    if list.text.is_empty() {
+        return Err(NOT_AGAIN);
+    }
+    let is_cut = list.text.len() >= MOST_SHOWN;
+    match refused_line(list.kind, list.text, number) {
+        Some(refused) => match refused.reason {
+            Some(LineReason::NoLineFeed) if is_cut => Err(TOO_FAR),
+            _ => Ok(refused),
+        },
+        None if is_cut => Err(TOO_FAR),
+        None => Err(NOT_AGAIN),
+    }
+}
+
+/// Tells which line of which file is refused, and why, where the line is known.
 fn tell_line<R: Eprint>(rt: &R, code: u16, number: u64, list: &List<'_, '_>) {
     let file = list.file;
     let kind = match list.kind {
         ListKind::Plan => "the plan",
-        _ => "the list of events",
+        _ => "the event file",
     };
     let _ = eprintln!(rt; "{kind} {file}, line {number}:");
-    let Some(Refused { line, reason }) = refused_line(list.kind, list.text, number) else {
-        tell_words(rt, code);
-        return;
+    let Refused { line, reason } = match whole_line(list, number) {
+        Ok(refused) => refused,
+        Err(why) => {
+            let _ = eprintln!(rt; "    {why}");
+            tell_words(rt, code);
+            return;
+        }
     };
     let shown = Letters(line);
     let _ = eprintln!(rt; "    {shown}");

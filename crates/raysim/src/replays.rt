@@ -1,4 +1,4 @@
-// Commands over a script and a list of events.
+// Commands over a script and an event file.
 
 use crate::heads::tell_misfits;
 use crate::inputs::{ReadEvents, first_bytes, read_events, read_plain_events, read_script_file};
@@ -15,12 +15,12 @@ use std::io;
 use std::process::ExitCode;
 use std::rt::Files;
 
-/// A script and a list of events, by their files, the cluster, and whether a refusal's place is asked for.
+/// A script and an event file, by their files, the cluster, and whether a refusal's place is asked for.
 #[derive(Clone, Copy)]
 pub struct Replayed<'a> {
     /// The script's file.
     pub script: &'a str,
-    /// The file with the list of events.
+    /// The event file.
     pub events: &'a str,
     pub cluster: Cluster,
     /// Whether a refusal's place is asked for.
@@ -56,13 +56,13 @@ impl<'a> Replayed<'a> {
 pub struct Texts {
     /// The script's text.
     pub script: Vec<u8>,
-    /// The list of events as a text, as far as a replay may go.
+    /// The event file as a text, as far as a replay may go.
     pub events: Vec<u8>,
     /// How the list's file begins.
     pub front: Vec<u8>,
 }
 
-/// Replays a list of events and writes what is asked for, and other views behind it, also where that could not be written; why it stops, where it
+/// Replays an event file and writes what is asked for, and other views behind it, also where that could not be written; why it stops, where it
 /// does, is told.
 pub fn over_events<R: Files + Print + Eprint + AllocGlobal>(
     rt: &R,
@@ -92,9 +92,7 @@ fn print_all<R: Files + Print + Eprint + AllocGlobal>(
     if let Some(stop) = printed.stop() {
         let known = replayed.known(ListKind::Events, script, listed);
         tell(rt, stop, &known);
-        if views.so_far {
-            print_so_far(rt, &printed.done, &known, *form);
-        }
+        print_so_far(rt, &printed.done, &known, *form, views);
         if !stop.is_of_writing() {
             return printed.ending();
         }
@@ -105,7 +103,7 @@ fn print_all<R: Files + Print + Eprint + AllocGlobal>(
     ExitCode::FAILURE
 }
 
-/// Replays a list of events of format 1 and writes it as one of format 2; why it stops, where it does, is told.
+/// Replays an event file of format 1 and writes it as one of format 2; why it stops, where it does, is told.
 pub fn migrate_events<R: Files + Print + Eprint + AllocGlobal>(
     rt: &R,
     replayed: &Replayed<'_>,
@@ -125,7 +123,7 @@ pub fn migrate_events<R: Files + Print + Eprint + AllocGlobal>(
     printed.ending()
 }
 
-/// Replays a list of events and tells what is alive behind the event of that number; why it stops, where it does, is told.
+/// Replays an event file and tells what is alive behind the event of that number; why it stops, where it does, is told.
 pub fn state_at<R: Files + Print + Eprint + AllocGlobal>(
     rt: &R,
     replayed: &Replayed<'_>,
@@ -199,7 +197,7 @@ fn print_state<R: Print + AllocGlobal>(
     Printed { done, error }
 }
 
-/// Reads a list of events of format 1, which says of no run.
+/// Reads an event file of format 1, which says of no run.
 fn read_first_format<'a, R: Files + AllocGlobal>(
     rt: &R,
     script: &[u8],
@@ -288,7 +286,9 @@ fn is_written<R: Files + Eprint + AllocGlobal>(
     match write_done(rt, view.path, done, shown.as_slice()) {
         Ok(()) => true,
         Err(stop) => {
-            tell_beside(rt, stop, view.path, report);
+            let (script, events) = (texts.script.as_slice(), texts.events.as_slice());
+            let known = Known::of_replay(script, events, replayed.cluster);
+            tell_beside(rt, stop, &known, view.path, report);
             false
         }
     }

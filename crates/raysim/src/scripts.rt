@@ -71,9 +71,7 @@ fn tell_so_far<R: Print + Eprint + AllocGlobal>(
     views: &Views<'_>,
 ) {
     if let Command::Run(_, form, _) = command {
-        if views.so_far {
-            print_so_far(rt, &printed.done, known, *form);
-        }
+        print_so_far(rt, &printed.done, known, *form, views);
     }
 }
 
@@ -183,7 +181,7 @@ fn is_written<R: Files + Eprint + AllocGlobal>(
     match write_done(rt, view.path, done, shown.as_slice()) {
         Ok(()) => true,
         Err(stop) => {
-            tell_beside(rt, stop, view.path, report);
+            tell_beside(rt, stop, &Known::nothing(), view.path, report);
             false
         }
     }

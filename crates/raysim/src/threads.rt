@@ -182,7 +182,7 @@ fn write_all<R: Files + Print + Eprint + AllocGlobal>(
     }
     if let Err(stop) = history {
         let path = options.history.unwrap_or("");
-        tell_beside(rt, stop, path, &printed.done);
+        tell_beside(rt, stop, &Known::nothing(), path, &printed.done);
     }
     if let Some(path) = options.history {
         tell_length(rt, path, events.as_slice());

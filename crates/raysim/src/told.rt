@@ -127,8 +127,14 @@ pub fn no_memory<R: Eprint>(rt: &R) -> ExitCode {
     ExitCode::FAILURE
 }
 
+/// A word of the command line as it is told: an empty one has marks around it.
+fn shown_name(word: &str) -> &str {
+    if word.is_empty() { "''" } else { word }
+}
+
 /// Says what is wrong with the words.
 pub fn fault<R: Eprint>(rt: &R, what: &str, why: &str) -> ExitCode {
+    let what = shown_name(what);
     let _ = eprintln!(rt; "{what} {why}");
     ExitCode::FAILURE
 }
@@ -142,11 +148,11 @@ pub fn tell<R: Eprint + AllocGlobal>(rt: &R, stop: Stop<'_>, known: &Known<'_, '
             tell_reason(rt, refusal, known);
         }
         Stop::Unread(file, error) => {
-            let refusal = CommandRefusal::Failed(Failure::Read);
+            let (refusal, file) = (CommandRefusal::Failed(Failure::Read), shown_name(file));
             let _ = eprintln!(rt; "{refusal}\nreading {file} failed: {error}");
         }
         Stop::Unwritten(file, error) => {
-            let refusal = CommandRefusal::Failed(Failure::Write);
+            let (refusal, file) = (CommandRefusal::Failed(Failure::Write), shown_name(file));
             let _ = eprintln!(rt; "{refusal}\nwriting {file} failed: {error}");
         }
         Stop::TooLong(kind) => tell_overlong(rt, kind),
@@ -172,17 +178,18 @@ pub fn stopped<R: Eprint + AllocGlobal>(rt: &R, stop: Stop<'_>) -> ExitCode {
     ExitCode::FAILURE
 }
 
-/// Tells why a file beside the report isn't written, and whether the report is.
+/// Tells why a file beside the report isn't written, and whether the report is. `known` is what is known of the replay that it was written from, if any.
 pub fn tell_beside<R: Eprint + AllocGlobal>(
     rt: &R,
     stop: Stop<'_>,
+    known: &Known<'_, '_>,
     file: &str,
     report: &Result<u8, CommandRefusal>,
 ) {
     if let Stop::Refused(CommandRefusal::Failed(Failure::Closed)) = stop {
         return;
     }
-    stopped(rt, stop);
+    tell(rt, stop, known);
     let _ = match report {
         Ok(_) => eprintln!(rt; "{file} is not written; the report is"),
         Err(_) => eprintln!(rt; "{file} is not written, and neither is the report"),

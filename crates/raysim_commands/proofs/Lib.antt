@@ -1,4 +1,5 @@
 pub mod Explained
 pub mod Migrated
 mod Replayed
+mod Seated
 pub mod Threaded

@@ -10,11 +10,11 @@ use Rattle.log_entries.specs.declared.event.Event.TheVariants as events
 use Rattle.event_files.specs.Files.{IsBadAt, IsRow, Passed, Row, Said, is_passed, row_text}
 use Rattle.event_files.specs.Lines.{IsLine, line_text}
 use Rattle.event_files.specs.Numbering.{line_numbers}
-use Rattle.event_files.specs.Recorded.{header, recorded_file}
+use Rattle.event_files.specs.Recorded.{IsEventFile, header, recorded_file}
 use Rattle.event_files.specs.declared.event_file.EventFile.TheVariants as files
 use Rattle.event_files.specs.declared.line.Line.{Line}
 use Rattle.event_files.specs.declared.line.Line.TheVariants as lines
-use Rattle.event_files.specs.LogHistory.{recorded_in}
+use Rattle.event_files.specs.LogHistory.{AreSeated, recorded_in}
 use Rattle.replay_laws.proofs.of_migration.Alike.{migrated_is_same}
 use Rattle.replay_laws.proofs.of_migration.Migrating.{histories_replay}
 use Rattle.replay_laws.specs.of_migration.Migration.{Begins}
@@ -28,6 +28,7 @@ use Rattle.raysim_streams.specs.declared.Failure.TheVariants.{Read, Write, Close
 use Rattle.raysim_streams.specs.declared.CommandRefusal.{CommandRefusal}
 use Rattle.raysim_streams.specs.declared.CommandRefusal.TheVariants.{At, NoMemory, Stopped, BadLine, WrongJob, Failed}
 use Rattle.run_commands.proofs.Lasting.{replay_goes_on}
+use Rattle.raysim_commands.proofs.Seated.{played_from_0}
 use Rattle.raysim_commands.specs.Migrations.{ExplainsLines, ExplainsMigration, IsHistoryOf, IsLinesFile, IsLinesStop, IsMigrated, IsMigrationBegun}
 use Rattle.script_commands.specs.Scripts.{Counts, Explains, FailedIn, IsAllowed, IsScript}
 use Rattle.run_commands.specs.SimReports.{IfBoth, first_play}
@@ -102,8 +103,8 @@ first_is_bad one bytes n h rest e =
 -- the replay's history
 pub history_so : (script named : Script) (size : Size) (lines : List Line) (first after : Play) (log : List Entry) (text : List ℕ) →
     script ≡ named → first ≡ first_play size → Plays named lines first after → IsSoundLog named after.run → log ≡ after.run.log →
-    text ≡ recorded_file (recorded_in log) → IsHistoryOf script size lines text
-history_so script named size lines first after log text own begins plays meant of_log written =
+    text ≡ recorded_file (recorded_in log) → (AreSeated log → IsEventFile text (files.Recorded (recorded_in log))) → IsHistoryOf script size lines text
+history_so script named size lines first after log text own begins plays meant of_log written reads =
     let played = subst (λ s. Plays s lines (first_play size) after) (sym own) (subst (λ p. Plays named lines p after) begins plays) in
     let sound = subst (λ s. IsSoundLog s after.run) (sym own) meant in
     let start : Begins (first_play size) = record { log = refl; jobs = refl; goes_on = refl } in
@@ -114,6 +115,7 @@ history_so script named size lines first after log text own begins plays meant o
       log = log;
       of_log = of_log;
       written = written;
+      is_file = reads (subst AreSeated (sym of_log) (played_from_0 script lines size after played));
       again = h.0;
       replays = h.1;
       same = λ other p. migrated_is_same script lines (first_play size) after other log start played of_log p;

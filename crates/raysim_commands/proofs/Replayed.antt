@@ -13,6 +13,7 @@ use Rattle.replay_laws.specs.of_seats.Seated.{AreFrom}
 use Rattle.run_commands.specs.declared.form.Form.{Form}
 use Rattle.run_commands.specs.SimReports.{first_play}
 use Rattle.raysim_commands.specs.ThreadReports.{AreOutputs, IsRunOn, MayBeReplayed, ReplaysTo}
+use Rattle.raysim_commands.proofs.Seated.{few_seats}
 
 replays_so : RunsReplay → RunsReplayToThemselves → (script : Script) → IsWellTyped script → (plan : List PlanLine) (size : Size) → 1 ≤ size.nodes → (run : RunState) →
     IsOver script plan size run → MayBeReplayed run.log (recorded_in run.log) → ReplaysTo script size run
@@ -27,12 +28,13 @@ replays_so replays same script typed plan size some run over may =
     }
 
 pub run_on_so : RunsReplay → RunsReplayToThemselves → (script checked : Script) → checked ≡ script → IsWellTyped checked → (plan : List PlanLine) (size : Size)
-    (threads : ℕ) (form : Form) (run : RunState) (report history : List ℕ) (status : ℕ) → 1 ≤ size.nodes → IsOver script plan size run →
+    (threads : ℕ) (form : Form) (run : RunState) (report history : List ℕ) (status : ℕ) → 1 ≤ size.nodes → threads ≤ 8 → IsOver script plan size run →
     AreFrom threads run.log → AreOutputs script run form report history status → IsRunOn script plan size threads form report history status
-run_on_so replays same script checked own typed plan size threads form run report history status some over seated outputs = record {
+run_on_so replays same script checked own typed plan size threads form run report history status some few over seated outputs = record {
   run = run;
   over = over;
   seated = seated;
+  is_file = outputs.reads (few_seats threads run.log few seated);
   replays = replays_so replays same script (subst IsWellTyped own typed) plan size some run over;
   outputs = outputs;
 }

@@ -5,7 +5,7 @@ use Rattle.meaning.specs.Syntax.{Script}
 use Rattle.event_log.specs.Entries.{Entry}
 use Rattle.event_files.specs.Files.{IsBadAt, IsFile}
 use Rattle.event_files.specs.Lines.{IsLine, line_text}
-use Rattle.event_files.specs.Recorded.{header, recorded_file}
+use Rattle.event_files.specs.Recorded.{IsEventFile, header, recorded_file}
 use Rattle.event_files.specs.declared.event_file.EventFile.TheVariants as files
 use Rattle.event_files.specs.declared.line.Line.{Line}
 use Rattle.event_files.specs.LogHistory.{recorded_in}
@@ -21,14 +21,15 @@ use Rattle.run_commands.specs.SimReports.{ExplainsSim, IfBoth, IsReplayed, IsToo
 abbrev pub IsLinesFile : List ℕ → List Line → Type 0
 IsLinesFile bytes lines = IsFile IsLine line_text bytes lines
 
--- the text is the history of the replay of these lines: the events of its log, each with its seat, and a claim with the job that it gave; and the replay
--- of these events is that same run
+-- the text is the history of the replay of these lines: an event file that says the events of its log, each with its seat, and a claim with the job that
+-- it gave; and the replay of these events is that same run
 pub record IsHistoryOf (script : Script) (size : Size) (lines : List Line) (text : List ℕ) : Type 0 where
   pub play : Play
   pub replayed : IsReplayed script size (files.Lines lines) play
   pub log : List Entry
   pub of_log : log ≡ play.run.log
   pub written : text ≡ recorded_file (recorded_in log)
+  pub is_file : IsEventFile text (files.Recorded (recorded_in log))
   pub again : Play
   pub replays : PlaysFile script (files.Recorded (recorded_in log)) (first_play size) again
   pub same : (other : Play) → PlaysFile script (files.Recorded (recorded_in log)) (first_play size) other → other.run ≡ play.run

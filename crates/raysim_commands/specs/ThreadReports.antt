@@ -8,7 +8,7 @@ use Rattle.event_files.specs.declared.recorded.RecordedEvent.{RecordedEvent}
 use Rattle.event_files.specs.declared.plan.PlanLine.{PlanLine}
 use Rattle.event_files.specs.Files.{IsBadAt, IsFile}
 use Rattle.event_files.specs.Plans.{IsPlanLine, plan_line_text}
-use Rattle.event_files.specs.Recorded.{recorded_file}
+use Rattle.event_files.specs.Recorded.{IsEventFile, recorded_file}
 use Rattle.report_text.specs.of_report_lines.Main.{status_of}
 use Rattle.run_commands.specs.of_protocol_board.Cores.{RunState, Size}
 use Rattle.run_commands.specs.of_protocol_board.Cores.{IsSoundLog}
@@ -23,7 +23,7 @@ use Rattle.run_commands.specs.declared.form.Form.{Form}
 use Rattle.run_commands.specs.Reports.{IsAsSerialIn, IsReportIn, account_of}
 use Rattle.script_commands.specs.Scripts.{Counts, FailedIn, IsAllowed, IsNoScriptFor, IsScript}
 use Rattle.run_commands.specs.SimReports.{IfBoth, first_play}
-use Rattle.event_files.specs.LogHistory.{recorded_in}
+use Rattle.event_files.specs.LogHistory.{AreSeated, recorded_in}
 
 -- the bytes are a plan with these lines
 abbrev pub IsPlan : List ℕ → List PlanLine → Type 0
@@ -34,6 +34,8 @@ pub record AreOutputs (script : Script) (run : RunState) (form : Form) (report h
   pub meant : IsSoundLog script run
   pub reported : IsReportIn form (account_of run [] []) report
   pub recorded : history ≡ recorded_file (recorded_in run.log)
+  -- where its events came from seats that an event file may name
+  pub reads : AreSeated run.log → IsEventFile history (files.Recorded (recorded_in run.log))
   pub ends : status ≡ status_of run.log
 
 -- by the log alone: what was handed in was of the job that it was handed in for, and once; and a replay may apply so many events
@@ -53,6 +55,8 @@ pub record IsRunOn (script : Script) (plan : List PlanLine) (size : Size) (threa
   pub run : RunState
   pub over : IsOver script plan size run
   pub seated : AreFrom threads run.log
+  -- the history is an event file, which says the events of the log
+  pub is_file : IsEventFile history (files.Recorded (recorded_in run.log))
   pub replays : MayBeReplayed run.log (recorded_in run.log) → ReplaysTo script size run
   pub outputs : AreOutputs script run form report history status
 

@@ -227,19 +227,19 @@ impl RefusalCause {
                 "A notice of the death of a worker or node that lives or never was.",
             RefusalCause::NoNode => "The node that an event names does not live.",
             RefusalCause::Limit =>
-                "The event would make object 1,000,001, worker 1,025 or node 65. A run that meets it ends with no report; a replay goes on behind it.",
+                "The event would make object 1,000,001, worker 1,025 or node 65. A run that meets it ends with no report, unless --so-far asks for the one up to there; a replay goes on behind it.",
             RefusalCause::Halted =>
                 "An earlier event found no memory (39), so no further event is taken.",
             RefusalCause::NoMemory =>
                 "There was no memory. A command then gives no report; the log of a run stays legal.",
             RefusalCause::BadLine =>
-                "A line of a file of events is no event, or the last line has no line feed. Lines are counted from 1.",
+                "A line of an event file or a plan is none of its format, or the last line has no line feed. Lines are counted from 1.",
             RefusalCause::TooLong =>
-                "More than 100,000 events would be applied. A replay that meets it ends with no report.",
+                "More than 100,000 events would be applied. A replay that meets it ends with no report, unless --so-far asks for the one up to there.",
             RefusalCause::WrongJob =>
                 "A claim gave another job than the line of a recorded history says. The file was recorded of another run.",
             RefusalCause::Failed =>
-                "A read or a write failed. After a failed write a beginning of the report is out.",
+                "A read or a write failed. After a failed write of the report a beginning of it may be out.",
         }
     }
 

@@ -58,14 +58,14 @@ const EXPLAIN: Parameter<'static> = Parameter {
 const EVENTS: Parameter<'static> = Parameter {
     id: "events",
     kind: Kind::Needed,
-    help: "The file of events, one in each line",
+    help: "The event file, one event in each line",
 };
 
 /// The events of a run that else goes on to its end by itself.
 const SOME_EVENTS: Parameter<'static> = Parameter {
     id: "events",
     kind: Kind::Optional,
-    help: "The file of events, one in each line (if left out, the run goes on to its end by itself)",
+    help: "The event file, one event in each line (if left out, the run goes on to its end by itself)",
 };
 
 const NODES: Parameter<'static> = Parameter {
@@ -127,7 +127,7 @@ const SUMMARY: Parameter<'static> = Parameter {
 const SO_FAR: Parameter<'static> = Parameter {
     id: "so-far",
     kind: Kind::Flag,
-    help: "Writes the report of a run that is stopped by a limit too, up to there",
+    help: "Writes the report of a run that is stopped by a limit too, up to there, and no file beside it",
 };
 
 const PROGRESS: Parameter<'static> = Parameter {
@@ -151,7 +151,7 @@ const SERIAL: Subcommand<'static> = Subcommand {
 /// What `sim` takes, in the order of its help. What is read by it is `sim_app` of specs/App.antt.
 pub(crate) const SIM: Subcommand<'static> = Subcommand {
     name: "sim",
-    about: "Runs a script by a list of events, and writes the run's report",
+    about: "Runs a script by an event file, and writes the run's report",
     parameters: &[
         SCRIPT,
         EXPLAIN,
@@ -165,7 +165,7 @@ pub(crate) const SIM: Subcommand<'static> = Subcommand {
         Parameter {
             id: "books",
             kind: Kind::Flag,
-            help: "Writes behind the report how many commits came from each seat, and the sum of their jobs",
+            help: "Writes behind the report how many commits came from each seat (of a thread its number, else 0), and the sum of their jobs",
         },
         FULL_VIEWS,
         SUMMARY,
@@ -190,7 +190,7 @@ pub(crate) const RUN: Subcommand<'static> = Subcommand {
         Parameter {
             id: "plan",
             kind: Kind::Worded("FILE"),
-            help: "A file of events to apply at given times of the run (none if left out)",
+            help: "A plan, whose events are applied at given times of the run (none if left out)",
         },
         Parameter {
             id: "history",
@@ -259,7 +259,7 @@ const FAULTS: Subcommand<'static> = Subcommand {
         Parameter {
             id: "events",
             kind: Kind::Optional,
-            help: "The file of the run's events, one in each line (if left out, the run goes on to its end by itself)",
+            help: "The run's event file, one event in each line (if left out, the run goes on to its end by itself)",
         },
         NODES,
         SLOTS,
@@ -284,7 +284,7 @@ const FAULTS: Subcommand<'static> = Subcommand {
 
 const MIGRATE: Subcommand<'static> = Subcommand {
     name: "migrate",
-    about: "Writes a file of events as one of format 2, in which each event has its seat",
+    about: "Writes an event file as one of format 2, in which each event names the seat from which it came",
     parameters: &[SCRIPT, EXPLAIN, EVENTS, NODES, SLOTS],
 };
 
@@ -314,7 +314,7 @@ const EXPORT: Subcommand<'static> = Subcommand {
 
 const STATE: Subcommand<'static> = Subcommand {
     name: "state",
-    about: "Tells what is alive in a run by a list of events: nodes, workers, and objects with who holds them",
+    about: "Tells what is alive in a run by an event file: nodes, workers, and objects with who holds them",
     parameters: &[
         SCRIPT,
         EXPLAIN,

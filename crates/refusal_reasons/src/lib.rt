@@ -3,6 +3,7 @@
 #![tactic(auto)]
 
 mod ending;
+mod events;
 mod expressions;
 mod grammar;
 mod kind;
@@ -11,6 +12,7 @@ mod line;
 mod line_words;
 mod named;
 mod near;
+mod numbers;
 mod scope;
 mod script;
 mod statements;
@@ -19,9 +21,11 @@ mod text_reason;
 mod wanted;
 
 pub use ending::Ending;
+pub use events::Lines;
 pub use letters::Letters;
 pub use line::{ListKind, Refused, refused_line};
-pub use line_words::{Field, LineReason, NumberFault};
+pub use line_words::{Field, LineReason};
 pub use named::{NearNames, refusal_named};
 pub use near::{Nearness, how_near};
+pub use numbers::Counted;
 pub use script::script_reason;

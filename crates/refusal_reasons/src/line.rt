@@ -2,9 +2,12 @@
 
 ghost use Rattle.std.specs.Prelude.{◌<◌, IfSome, length};
 
-use crate::line_words::{Field, LineReason, NumberFault};
-use crate::near::{Nearness, how_near};
-use ids::{ObjectId, read_number};
+use crate::events::{EventForm, Lines, form_of, is_of_the_run};
+use crate::line_words::LineReason;
+use crate::numbers::{
+    Counted, digits_reason, field_reason, has_leading_zero, is_of_digits, number_reason,
+};
+use ids::read_number;
 
 /// Which file has the line.
 #[derive(Clone, Copy, Debug, PartialEq, Eq)]
@@ -24,14 +27,6 @@ pub struct Refused<'a> {
     pub line: &'a [u8],
     /// Why it is none of its format, where that is sure.
     pub reason: Option<LineReason<'a>>,
-}
-
-/// What the lines of a file are.
-#[derive(Clone, Copy, PartialEq, Eq)]
-enum Lines {
-    First,
-    Second,
-    Planned,
 }
 
 /// A line, and whether a line feed stands behind it.
@@ -146,133 +141,15 @@ fn spacing(line: &[u8]) -> Option<LineReason<'_>> {
     None
 }
 
-fn are_digits(text: &[u8]) -> bool {
-    for byte in text {
-        if *byte < b'0' || *byte > b'9' {
-            return false;
-        }
-    }
-    true
-}
-
-/// What is wrong with a word of digits alone, or with another one, that is no number of 64 bits.
-fn number_fault(word: &[u8]) -> NumberFault {
-    if are_digits(word) {
-        return match word {
-            [b'0', _, ..] => NumberFault::LeadingZero,
-            _ => NumberFault::TooLarge,
-        };
-    }
-    match word {
-        [b'a'..=b'z', digits @ ..] if !digits.is_empty() && are_digits(digits) => {
-            NumberFault::LetterInFront
-        }
-        _ => NumberFault::NoNumber,
-    }
-}
-
-/// Why a word doesn't stand for what is wanted there.
-fn field_reason(field: Field, word: &[u8]) -> Option<LineReason<'_>> {
-    if field == Field::Object {
-        return match ObjectId::read(word) {
-            Some(_) => None,
-            None => Some(LineReason::NoObject(word)),
-        };
-    }
-    match read_number(word) {
-        Some(number) if number > field.most() => {
-            Some(LineReason::Number(field, word, NumberFault::TooLarge))
-        }
-        Some(_) => None,
-        None => Some(LineReason::Number(field, word, number_fault(word))),
-    }
-}
-
 /// Why the words aren't workers.
 fn workers_reason(text: &[u8]) -> Option<LineReason<'_>> {
     let (word, rest) = first_word(text);
-    if let Some(reason) = field_reason(Field::Worker, word) {
+    if let Some(reason) = number_reason(Counted::Worker, word) {
         return Some(reason);
     }
     match rest {
         Some(more) => workers_reason(more),
         None => None,
-    }
-}
-
-/// The names of the events.
-const NAMES: [&str; 12] = [
-    "claim",
-    "commit",
-    "deliver",
-    "tick",
-    "notice",
-    "notice-node",
-    "evict",
-    "lose",
-    "kill",
-    "kill-node",
-    "join",
-    "settle",
-];
-
-/// The name of an event that is near.
-fn near_name(word: &[u8]) -> Option<&'static str> {
-    let names = NAMES;
-    let mut found = None;
-    for name in names {
-        match how_near(name.as_bytes(), word) {
-            Some(Nearness::OneEdit) => return Some(name),
-            Some(Nearness::TwoEdits) => found = Some(name),
-            None => {}
-        }
-    }
-    found
-}
-
-/// How an event is written, and what stands in its places.
-#[derive(Clone, Copy)]
-struct EventForm {
-    text: &'static str,
-    first: Option<Field>,
-    second: Option<Field>,
-}
-
-fn form(text: &'static str, first: Option<Field>, second: Option<Field>) -> Option<EventForm> {
-    Some(EventForm {
-        text,
-        first,
-        second,
-    })
-}
-
-/// The form of an event whose name is that word.
-fn form_of(word: &[u8], lines: Lines) -> Option<EventForm> {
-    let worker = Some(Field::Worker);
-    let node = Some(Field::Node);
-    let object = Some(Field::Object);
-    match word {
-        b"claim" if lines == Lines::Second => form("claim W J", worker, Some(Field::Job)),
-        b"claim" => form("claim W", worker, None),
-        b"commit" => form("commit J", Some(Field::Job), None),
-        b"deliver" => form("deliver K", Some(Field::Message), None),
-        b"tick" => form("tick W", worker, None),
-        b"notice" => form("notice W V", worker, worker),
-        b"notice-node" => form("notice-node W N", worker, node),
-        b"evict" => form("evict N O", node, object),
-        b"lose" => form("lose N O", node, object),
-        b"kill" => form("kill W", worker, None),
-        b"kill-node" => form("kill-node N", node, None),
-        b"join" => form("join", None, None),
-        _ => None,
-    }
-}
-
-/// Whether the event is the run's own, so that it stands in no plan.
-fn is_of_the_run(word: &[u8]) -> bool {
-    match word {
-        b"claim" | b"commit" | b"deliver" | b"settle" => true,
-        _ => false,
     }
 }
 
@@ -331,7 +208,7 @@ fn event_reason(text: &[u8], lines: Lines) -> Option<LineReason<'_>> {
     }
     match form_of(word, lines) {
         Some(form) => places_reason(form, rest),
-        None => Some(LineReason::Unknown(word, near_name(word))),
+        None => Some(LineReason::Unknown(word, lines.near_name(word), lines)),
     }
 }
 
@@ -344,18 +221,36 @@ fn first_reason(line: &[u8]) -> Option<LineReason<'_>> {
     if word == b"raysim".as_slice() {
         return Some(LineReason::OtherFormat);
     }
-    if rest.is_some() && are_digits(word) {
+    if rest.is_some() && is_of_digits(word) {
         return Some(LineReason::NumberInFront(word));
     }
     event_reason(line, Lines::First)
 }
 
+/// Why a word is no seat.
+fn seat_reason(word: &[u8]) -> Option<LineReason<'_>> {
+    if has_leading_zero(word) {
+        return Some(LineReason::LeadingZero(word));
+    }
+    match read_number(word) {
+        Some(number) if number < 9 => None,
+        _ => Some(LineReason::NoSeat(word)),
+    }
+}
+
+/// Why a word is no number of commits.
+fn commits_reason(word: &[u8]) -> Option<LineReason<'_>> {
+    if is_of_digits(word) {
+        return digits_reason(Counted::Commits, word);
+    }
+    Some(LineReason::NoCommits(word))
+}
+
 /// Why a line is none of a list of format 2.
 fn second_reason(line: &[u8]) -> Option<LineReason<'_>> {
     let (seat, rest) = first_word(line);
-    match read_number(seat) {
-        Some(number) if number < 9 => {}
-        _ => return Some(LineReason::NoSeat(seat)),
+    if let Some(reason) = seat_reason(seat) {
+        return Some(reason);
     }
     match rest {
         Some(text) => event_reason(text, Lines::Second),
@@ -366,8 +261,8 @@ fn second_reason(line: &[u8]) -> Option<LineReason<'_>> {
 /// Why a line is none of a plan.
 fn planned_reason(line: &[u8]) -> Option<LineReason<'_>> {
     let (commits, rest) = first_word(line);
-    if read_number(commits).is_none() {
-        return Some(LineReason::NoCommits(commits));
+    if let Some(reason) = commits_reason(commits) {
+        return Some(reason);
     }
     match rest {
         Some(text) => event_reason(text, Lines::Planned),

@@ -1,51 +1,16 @@
 // How it is told why a line is none of its format.
 
+use crate::events::Lines;
 use crate::letters::Letters;
+use crate::numbers::Counted;
 use std::fmt;
 
 /// What stands in a place of an event.
 #[derive(Clone, Copy, Debug, PartialEq, Eq)]
 pub enum Field {
-    Worker,
-    Node,
-    /// The number of a job.
-    Job,
-    /// The number of a message.
-    Message,
+    Number(Counted),
     /// An object, as `o1.3`.
     Object,
-}
-
-impl Field {
-    /// The greatest number of such a one.
-    pub(crate) fn most(self) -> u64 {
-        match self {
-            Field::Worker | Field::Node => 4_294_967_295,
-            _ => u64::MAX,
-        }
-    }
-
-    fn name(self) -> &'static str {
-        match self {
-            Field::Worker => "worker",
-            Field::Node => "node",
-            Field::Job => "job",
-            Field::Message => "message",
-            Field::Object => "object",
-        }
-    }
-}
-
-/// Why a word is no number.
-#[derive(Clone, Copy, Debug, PartialEq, Eq)]
-pub enum NumberFault {
-    LeadingZero,
-    /// Its value isn't within the type of its place.
-    TooLarge,
-    /// A letter, and digits behind it.
-    LetterInFront,
-    /// None of these: it isn't digits alone.
-    NoNumber,
 }
 
 /// Why a line is none of its format. Its text says it in a sentence without an end.
@@ -77,48 +42,55 @@ pub enum LineReason<'a> {
     NoCommits(&'a [u8]),
     /// The line is a number alone.
     NoEvent(&'a [u8]),
-    /// The name of no event, and the name that is near, if there is one.
-    Unknown(&'a [u8], Option<&'static str>),
+    /// The name of no event, and the name that is near of one that such lines may have, if there is one.
+    Unknown(&'a [u8], Option<&'static str>, Lines),
     /// An event that is the run's own, in a plan.
     OfTheRun(&'a [u8]),
     /// A settle line in a file of format 2.
     SettleInHistory,
     /// How the event is written.
     WrongForm(&'static str),
-    /// What stands in that place of the event, which is no number of its kind, and why.
-    Number(Field, &'a [u8], NumberFault),
+    /// A number with a leading zero.
+    LeadingZero(&'a [u8]),
+    /// A number that is greater than such ones are.
+    TooLarge(Counted, &'a [u8]),
+    /// A letter with digits behind it, where such a number is wanted.
+    LetterInFront(Counted, &'a [u8]),
+    /// Neither digits alone nor that, where such a number is wanted.
+    NoNumber(Counted, &'a [u8]),
     /// What stands in the place of an object, and is none.
     NoObject(&'a [u8]),
 }
 
-/// Tells why a word is no number of such a one.
-fn tell_number<W: fmt::Write>(
+/// Tells that a number is too large.
+fn tell_too_large<W: fmt::Write>(
     f: &mut fmt::Formatter<W>,
-    field: Field,
+    counted: Counted,
     word: &[u8],
-    fault: NumberFault,
 ) -> fmt::Result {
-    let name = field.name();
+    let (name, most) = (counted.name(), counted.most());
     let word = Letters(word);
-    match fault {
-        NumberFault::LeadingZero => write!(f, "{word} is no number: it has a leading zero"),
-        NumberFault::TooLarge => {
-            let most = field.most();
-            write!(
-                f,
-                "{word} is too large: the number of a {name} is at most {most}"
-            )
+    match counted {
+        Counted::Owner | Counted::Serial => {
+            write!(f, "{word} is too large: {name} is at most {most}")
         }
-        NumberFault::LetterInFront => {
-            write!(
-                f,
-                "{word} is no number: a {name} is written by its number alone"
-            )
-        }
-        NumberFault::NoNumber => {
-            write!(f, "{word} is no number: a {name} is written by its number")
-        }
+        _ => write!(
+            f,
+            "{word} is too large: the number of {name} is at most {most}"
+        ),
     }
+}
+
+/// Tells that a word is no number of such a one, with what that is written by.
+fn tell_no_number<W: fmt::Write>(
+    f: &mut fmt::Formatter<W>,
+    counted: Counted,
+    word: &[u8],
+    by: &str,
+) -> fmt::Result {
+    let name = counted.name();
+    let word = Letters(word);
+    write!(f, "{word} is no number: {name} is written by {by}")
 }
 
 /// Tells that a word is the name of no event.
@@ -126,15 +98,15 @@ fn tell_unknown<W: fmt::Write>(
     f: &mut fmt::Formatter<W>,
     word: &[u8],
     near: Option<&'static str>,
+    lines: Lines,
 ) -> fmt::Result {
     let word = Letters(word);
     write!(f, "there is no event {word}")?;
     if let Some(name) = near {
         write!(f, ", but {name}")?;
     }
-    f.write_str(
-        "; there are claim, commit, deliver, tick, notice, notice-node, evict, lose, kill, kill-node, join and settle",
-    )
+    let names = lines.names();
+    write!(f, "; there are {names}")
 }
 
 impl fmt::Display for LineReason<'_> {
@@ -195,12 +167,13 @@ impl fmt::Display for LineReason<'_> {
                 let word = Letters(*word);
                 write!(f, "no event stands behind {word}")
             }
-            LineReason::Unknown(word, near) => tell_unknown(f, *word, *near),
+            LineReason::Unknown(word, near, lines) => tell_unknown(f, *word, *near, *lines),
             LineReason::OfTheRun(word) => {
                 let word = Letters(*word);
+                let names = Lines::Planned.names();
                 write!(
                     f,
-                    "{word} stands in no plan: the run does that by itself; there are tick, notice, notice-node, evict, lose, kill, kill-node and join"
+                    "{word} stands in no plan: the run does that by itself; there are {names}"
                 )
             }
             LineReason::SettleInHistory => {
@@ -209,7 +182,17 @@ impl fmt::Display for LineReason<'_> {
                 )
             }
             LineReason::WrongForm(form) => write!(f, "it is written {form}"),
-            LineReason::Number(field, word, fault) => tell_number(f, *field, *word, *fault),
+            LineReason::LeadingZero(word) => {
+                let word = Letters(*word);
+                write!(f, "{word} is no number: it has a leading zero")
+            }
+            LineReason::TooLarge(counted, word) => tell_too_large(f, *counted, *word),
+            LineReason::LetterInFront(counted, word) => {
+                tell_no_number(f, *counted, *word, "its number alone")
+            }
+            LineReason::NoNumber(counted, word) => {
+                tell_no_number(f, *counted, *word, "its number")
+            }
             LineReason::NoObject(word) => {
                 let word = Letters(*word);
                 write!(f, "{word} is no object: one is written as o1.2")

@@ -1,5 +1,5 @@
 -- What `sim` writes, and its status.
-use Rattle.std.specs.Prelude.{◌≡◌, ◌⊎◌, ℕ, false, List, [], Option, Some, None, map, take, drop, IfSome}
+use Rattle.std.specs.Prelude.{◌≡◌, ◌⊎◌, ℕ, false, List, Option, Some, None, map, take, drop, IfSome}
 use Rattle.std.specs.Io.KnownBytes.{Appends}
 use Rattle.meaning.specs.Syntax.{Script}
 use Rattle.event_files.specs.declared.error.EventError.TheVariants as errors
@@ -9,11 +9,12 @@ use Rattle.event_files.specs.Recorded.{IsEventFile, IsFileRefusal}
 use Rattle.event_files.specs.Numbering.{line_numbers}
 use Rattle.event_log.specs.Events.{from_one}
 use Rattle.report_text.specs.of_report_lines.Main.{status_of}
-use Rattle.fault_runs.specs.of_protocol_board.Cores.{Size, first_state}
+use Rattle.fault_runs.specs.of_protocol_board.Cores.{Size}
 use Rattle.fault_runs.specs.of_protocol_board.declared.stopped.ReplayStop.{ReplayStop}
 use Rattle.fault_runs.specs.of_protocol_board.declared.stopped.ReplayStop.TheVariants as stops
 use Rattle.fault_runs.specs.of_protocol_board.Cores.{IsSoundLog}
 use Rattle.fault_runs.specs.of_protocol_board.Replays.{FileStops, Play, PlaysFile}
+pub use Rattle.fault_runs.specs.Replays.{first_play}
 use Rattle.raysim_streams.specs.declared.Failure.TheVariants.{Read, Write, Closed}
 use Rattle.raysim_streams.specs.declared.CommandRefusal.{CommandRefusal}
 use Rattle.raysim_streams.specs.declared.CommandRefusal.TheVariants.{At, NoMemory, Stopped as Stops, BadLine, WrongJob, Failed}
@@ -40,10 +41,6 @@ number_of numbers k = or_none (from_one numbers k)
 
 abbrev pub lines_in_file : List ℕ → List ℕ → List ℕ
 lines_in_file numbers lines = map (number_of numbers) lines
-
--- a replay on such a cluster, as it begins
-abbrev pub first_play : Size → Play
-first_play size = record { run = first_state size.nodes size.slots; jobs = []; applied = 0; sent = []; begun = 0; lines = [] }
 
 -- the lines make this of a run of the script that begins on the cluster, and what its log then means
 pub record IsReplayed (script : Script) (size : Size) (says : EventFile) (p : Play) : Type 0 where

@@ -1,6 +1,6 @@
 // The command `run` on one thread: a script's run that is driven to its end, and its report.
 
-ghost use Rattle.std.specs.Prelude.{◌≡◌, [], IfOk, IfErr, IfSome, string_bytes};
+ghost use Rattle.std.specs.Prelude.{◌≡◌, IfOk, IfErr, IfSome, string_bytes};
 ghost use Rattle.script_check.specs.Trees.{script_of};
 ghost use Rattle.script_commands.specs.Scripts.{IsUnwritten};
 ghost use Rattle.run_commands.specs.RunReports.{ExplainsRun, IsReportOf, IsRunBegun, IsRunReported, IsRunStop};
@@ -9,7 +9,7 @@ use crate::form::Form;
 use crate::run_memory::{RunMemory, leave};
 use crate::run_stops::run_refusal;
 use crate::telling::{SoFar, told};
-use fault_runs::{Board, Cluster, Core, drive};
+use fault_runs::{Board, Cluster, Core, drive, no_numbers};
 use raysim_streams::{CommandRefusal, Sink, Source, put_all};
 use run_watch::Watcher;
 use script_commands::read_compiled;
@@ -17,18 +17,6 @@ use segment::{Compiled, ScriptName};
 use sequence::Seq;
 use std::alloc::Global;
 use std::marker::Brand;
-
-/// For how many events the counts of messages have room from the start: a list that grows is copied.
-const EVENTS: usize = 4096;
-
-/// No count yet; there is room for some where there is memory for it.
-fn no_counts(alloc: Global) -> Seq<usize>
-    ensures { result ≡ [] }
-{
-    let mut sent = Seq::new(alloc);
-    let _ = sent.items.reserve(EVENTS);
-    sent
-}
 
 /// What is written of a script's run, which is driven to its end.
 fn run_script<S: ScriptName, L: Watcher>(
@@ -48,7 +36,7 @@ fn run_script<S: ScriptName, L: Watcher>(
         Err(_) => return Err(CommandRefusal::NoMemory),
     };
     let mut board = Board::new(core);
-    let mut sent = no_counts(alloc);
+    let mut sent = no_numbers(alloc);
     if let Err(refusal) = drive(alloc, &mut board, &mut sent, script, watcher) {
         drop(board);
         return Err(run_refusal(refusal));
@@ -60,7 +48,7 @@ fn run_script<S: ScriptName, L: Watcher>(
 }
 
 /// Reads a script's text, runs its remote calls as tasks on this cluster until nothing is left to do, and writes the run's report
-/// (docs/runs.md, "The report"), or the same as one line of JSON. The status is 0 where main ends with a value, 1 where it ends with a
+/// (docs/runs.md, "The report"), or what else the form asks for of it. The status is 0 where main ends with a value, 1 where it ends with a
 /// trap, and 2 where it is open or has a fault.
 ///
 /// Else the refusal says why: `At` where the text is no script that the rules allow, `NoMemory`, `Stopped` where the run stops before its

@@ -41,7 +41,7 @@ fn sim_script<S: ScriptName>(
 }
 
 /// Reads a script's text and then an event file of either format, applies the file's events to a run of the script on this cluster, and writes
-/// the run's report (docs/runs.md, "The report"), or the same as one line of JSON. The status is 0 where main ends with a value, 1 where it
+/// the run's report (docs/runs.md, "The report"), or what else the form asks for of it. The status is 0 where main ends with a value, 1 where it
 /// ends with a trap, and 2 where it is open or has a fault.
 ///
 /// Else the refusal says why: `At` where the text is no script that the rules allow, `BadLine` where a line is none of an event file,

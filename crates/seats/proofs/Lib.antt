@@ -9,7 +9,7 @@ mod Limited
 mod Outside
 mod Owed
 mod Planned
-mod Seated
+pub mod Seated
 mod Sizes
 mod Standing
 pub use Rattle.run_paths.proofs.of_count_laws as of_count_laws

@@ -22,8 +22,12 @@ split [] ys k x h = inr (k, h)
 split (y ∷ xs) ys zero x h = inl (0, h)
 split (y ∷ xs) ys (suc k) x h = elim (split xs ys k x h) [ inl q ↦ inl (suc q.0, q.1) | inr q ↦ inr q ]
 
-both : (n : ℕ) (xs ys : List Entry) → AreFrom n xs → AreFrom n ys → AreFrom n (xs ++ ys)
-both n xs ys h k i e seat at = elim (split xs ys i (In e seat) at) [ inl q ↦ h q.0 e seat q.1 | inr q ↦ k q.0 e seat q.1 ]
+-- each event of the log came from a seat of that kind
+abbrev AreOf : (ℕ → Type 0) → List Entry → Type 0
+AreOf P log = (k : ℕ) (e : Event) (seat : ℕ) → slice_get log k ≡ Some (In e seat) → P seat
+
+both : (P : ℕ → Type 0) (xs ys : List Entry) → AreOf P xs → AreOf P ys → AreOf P (xs ++ ys)
+both P xs ys h k i e seat at = elim (split xs ys i (In e seat) at) [ inl q ↦ h q.0 e seat q.1 | inr q ↦ k q.0 e seat q.1 ]
 
 none_in : (es : List Entry) → has_event es ≡ false → (k : ℕ) (e : Event) (seat : ℕ) → slice_get es k ≡ Some (In e seat) → ⊥
 none_in [] h k e seat at = cc
@@ -31,43 +35,52 @@ none_in (In f from ∷ es) h k e seat at = cc
 none_in (x ∷ es) h zero e seat at = cc
 none_in (x ∷ es) h (suc k) e seat at = none_in es h k e seat at
 
-none_from : (n : ℕ) (es : List Entry) → has_event es ≡ false → AreFrom n es
-none_from n es h k e seat at = absurd (none_in es h k e seat at)
+none_from : (P : ℕ → Type 0) (es : List Entry) → has_event es ≡ false → AreOf P es
+none_from P es h k e seat at = absurd (none_in es h k e seat at)
 
 abbrev seat_in : Option Entry → ℕ
 seat_in (Some (In e seat)) = seat
 seat_in x = 0
 
 -- an event, and what it adds behind itself
-one_from : (n : ℕ) (e : Event) (seat : ℕ) (es : List Entry) → IsSeat n seat → has_event es ≡ false → AreFrom n (In e seat ∷ es)
-one_from n e seat es h none zero f from at = subst (IsSeat n) (ap seat_in at) h
-one_from n e seat es h none (suc k) f from at = none_from n es none k f from at
+one_from : (P : ℕ → Type 0) (e : Event) (seat : ℕ) (es : List Entry) → P seat → has_event es ≡ false → AreOf P (In e seat ∷ es)
+one_from P e seat es h none zero f from at = subst P (ap seat_in at) h
+one_from P e seat es h none (suc k) f from at = none_from P es none k f from at
 
-limited : (n : ℕ) (c : ClusterState) (e : Event) (seat : ℕ) (handed : CommitInput) → IsSeat n seat → (b : Bool) →
-    AreFrom n (logged e seat (if b then takes (happens c e handed) (given_out c e) else answers.Refuses Limit))
-limited n c e seat handed h true =
-    one_from n e seat (happens c e handed).out.entries h (no_event (happens c e handed).out.entries (happens-counted c e handed).quiet)
-limited n c e seat handed h false = one_from n e seat (Refused Limit ∷ []) h refl
+limited : (P : ℕ → Type 0) (c : ClusterState) (e : Event) (seat : ℕ) (handed : CommitInput) → P seat → (b : Bool) →
+    AreOf P (logged e seat (if b then takes (happens c e handed) (given_out c e) else answers.Refuses Limit))
+limited P c e seat handed h true =
+    one_from P e seat (happens c e handed).out.entries h (no_event (happens c e handed).out.entries (happens-counted c e handed).quiet)
+limited P c e seat handed h false = one_from P e seat (Refused Limit ∷ []) h refl
 
-by_refusal : (n : ℕ) (c : ClusterState) (e : Event) (seat : ℕ) (handed : CommitInput) → IsSeat n seat → (o : Option Refusal) → AreFrom n (logged e seat (decided c e handed o))
-by_refusal n c e seat handed h None = limited n c e seat handed h (is_within_limits (happens c e handed).whole)
-by_refusal n c e seat handed h (Some code) = one_from n e seat (Refused code ∷ []) h refl
+by_refusal : (P : ℕ → Type 0) (c : ClusterState) (e : Event) (seat : ℕ) (handed : CommitInput) → P seat → (o : Option Refusal) →
+    AreOf P (logged e seat (decided c e handed o))
+by_refusal P c e seat handed h None = limited P c e seat handed h (is_within_limits (happens c e handed).whole)
+by_refusal P c e seat handed h (Some code) = one_from P e seat (Refused code ∷ []) h refl
 
-pub stays_from : (before after : RunState) (e : Event) (seat : ℕ) (done : Option Done) (told : Reply) → Answers before e seat done after told →
-    StaysFrom seat before.log after.log
-stays_from before after e seat done told answers n h from = by_halt before.is_halted refl
+-- where the events so far came from seats of that kind, so they do behind one from such a seat
+pub behind_answers : (P : ℕ → Type 0) (before after : RunState) (e : Event) (seat : ℕ) (done : Option Done) (told : Reply) →
+    Answers before e seat done after told → P seat → AreOf P before.log → AreOf P after.log
+behind_answers P before after e seat done told answers h from = by_halt before.is_halted refl
   where
-    follows : Follows before e seat done after told → AreFrom n after.log
-    follows (inl out) = subst (AreFrom n) (sym out.same) from
+    follows : Follows before e seat done after told → AreOf P after.log
+    follows (inl out) = subst (AreOf P) (sym out.same) from
     follows (inr (handed, is_handed, is)) =
-        subst (AreFrom n) (sym is.log)
-        (both n before.log (logged e seat (answer before.whole e handed)) from
-        (by_refusal n before.whole e seat handed h (refusal before.whole e handed)))
+        subst (AreOf P) (sym is.log)
+        (both P before.log (logged e seat (answer before.whole e handed)) from
+        (by_refusal P before.whole e seat handed h (refusal before.whole e handed)))
 
-    by_halt : (b : Bool) → before.is_halted ≡ b → AreFrom n after.log
-    by_halt true f = subst (AreFrom n) (sym (ap (λ (r : RunState). r.log) (answers.halted f).0)) from
+    by_halt : (b : Bool) → before.is_halted ≡ b → AreOf P after.log
+    by_halt true f = subst (AreOf P) (sym (ap (λ (r : RunState). r.log) (answers.halted f).0)) from
     by_halt false f = follows (answers.follows f)
 
 -- a run that begins
+pub none_of_opening : (P : ℕ → Type 0) (log : List Entry) → log ≡ opening → AreOf P log
+none_of_opening P log h = subst (AreOf P) (sym h) (none_from P opening refl)
+
+pub stays_from : (before after : RunState) (e : Event) (seat : ℕ) (done : Option Done) (told : Reply) → Answers before e seat done after told →
+    StaysFrom seat before.log after.log
+stays_from before after e seat done told answers n h from = behind_answers (IsSeat n) before after e seat done told answers h from
+
 pub none_came_yet : (log : List Entry) → log ≡ opening → (n : ℕ) → AreFrom n log
-none_came_yet log h n = subst (AreFrom n) (sym h) (none_from n opening refl)
+none_came_yet log h n = none_of_opening (IsSeat n) log h

@@ -5,6 +5,7 @@ ghost use Rattle.books.specs.SeatTotals.{seat_totals};
 ghost use Rattle.event_log.specs.Books.{totals_of};
 ghost use Rattle.event_log.specs.Entries.{Claim, Commit};
 ghost use Rattle.event_log.specs.Laws.{nothing};
+ghost use Rattle.log_entries.specs.declared.refusal.Refusal.TheVariants.{NoMemory};
 ghost use Rattle.run_paths.specs.of_protocol_board.Cores.{reply_of};
 ghost use Rattle.seat_books.specs.Holdings.{SameParts};
 ghost use Rattle.seat_books.specs.Seats.{AreParts, book_of, new_seats, sums, with_more};
@@ -12,7 +13,7 @@ ghost use Rattle.seats.specs.Counted.{IsFresh, counted};
 ghost use Rattle.seats.specs.Ends.{IsEndBeside, size_of};
 ghost use Rattle.seats.specs.Outside.{MayApply};
 ghost use Rattle.seats.specs.Seated.{AreFrom};
-ghost use Rattle.seats.specs.Turns.{turn_counted};
+ghost use Rattle.seats.specs.Turns.{or_first, turn_counted};
 ghost use Rattle.seats.specs.Views.{told_of};
 
 use crate::end::Ended;
@@ -133,7 +134,10 @@ impl<
         told
     }
 
-    fn give_up(&mut self) {
+    /// Gives the run up for want of memory, unless it was given up before.
+    fn give_up(&mut self)
+        ensures { self.new.turning ≡ record self.old.turning { given_up = or_first self.old.turning.given_up NoMemory } }
+    {
         self.turning.give_up();
     }
 
@@ -309,7 +313,7 @@ impl<
         self.locked.lock(rt).turn(alloc, seat)
     }
 
-    /// Gives the run up for want of memory: each later turn is at its end.
+    /// Gives the run up for want of memory, unless it was given up before: `Turning::give_up` under the lock, so that each later turn is at its end.
     pub fn give_up<R: Wait>(&self, rt: &R) {
         self.locked.lock(rt).give_up();
     }
@@ -319,7 +323,7 @@ impl<
         gate.look(self.locked.lock(rt).turning.log());
     }
 
-    /// Claims the worker's next part of its task.
+    /// Claims the worker's next part of its task, and counts it in the seat's book. The reply is the board's: the job that is given out, or why there is none.
     pub fn claim<R: Wait>(
         &self,
         rt: &R,
@@ -332,7 +336,7 @@ impl<
         self.step(rt, alloc, seat, Event::Claim(worker))
     }
 
-    /// Commits what was done on a job.
+    /// Commits what was done on a job, and counts it in the seat's book. The reply is the board's: `Ok`, or why the commit is refused.
     pub fn commit<R: Wait>(
         &self,
         rt: &R,

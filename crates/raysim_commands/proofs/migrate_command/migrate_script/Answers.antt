@@ -12,7 +12,7 @@ returns-in_ok-written-in-Ok-clause-written g c =
     let same : from_first first ≡ first = search rules in
     let begins : first ≡ first_play c.args.cluster = search rules in
     history_so (script_of c.args.script.now) g.S.ScriptName.script c.args.cluster c.args.lines.now (from_first first) c.play.new.self c.log.result.now
-    (string_bytes c.in_ok-written-in-Ok.field-0) (search rules) (same ∙ begins) (search rules) (search rules) (search rules) (search rules)
+    (string_bytes c.in_ok-written-in-Ok.field-0) (search rules) (same ∙ begins) (search rules) (search rules) (search rules) (search rules) (search rules)
 
 pub returns-in-Err-TooLong-clause-stopped : goal.returns-in-Err-TooLong-clause-stopped
 returns-in-Err-TooLong-clause-stopped g c =

@@ -10,9 +10,9 @@ use Rattle.run_commands.proofs.run_command.run_script.Goals as goal
 
 pub returns-in-Err-drive-clause-stopped : goal.returns-in-Err-drive-clause-stopped
 returns-in-Err-drive-clause-stopped g c =
-    run_stops (script_of c.args.script.now) g.S.ScriptName.script c.args.cluster (course_of c.new-board.result c.no_counts-sent.result)
+    run_stops (script_of c.args.script.now) g.S.ScriptName.script c.args.cluster (course_of c.new-board.result c.no_numbers-sent.result)
     (course_of c.drive.new.board c.drive.new.sent) c.in-Err-drive.refusal c.run_refusal.result c.requires
-    (begins_so c.new-board.result c.no_counts-sent.result c.args.cluster (c.new-board.ensures ∙ c.in-Ok.ensures) c.no_counts-sent.ensures)
+    (begins_so c.new-board.result c.no_numbers-sent.result c.args.cluster (c.new-board.ensures ∙ c.in-Ok.ensures) c.no_numbers-sent.ensures)
     c.in-Err-drive.ensures.stops c.run_refusal.ensures
 
 pub returns-clause-reported : goal.returns-clause-reported
@@ -22,9 +22,9 @@ returns-clause-reported g c =
     let after = course_of c.drive.new.board c.drive.new.sent in
     IfOk-weaker c.told-told.result (λ s. IsToldOf form after.run after.sent c.new-nowhere.result (string_bytes s.text) s.status)
     (λ s. IsReportOf script c.args.cluster form (string_bytes s.text) s.status)
-    (λ s told. run_ends script g.S.ScriptName.script c.args.cluster form (course_of c.new-board.result c.no_counts-sent.result) after c.new-nowhere.result
+    (λ s told. run_ends script g.S.ScriptName.script c.args.cluster form (course_of c.new-board.result c.no_numbers-sent.result) after c.new-nowhere.result
     (string_bytes s.text) s.status c.requires
-    (begins_so c.new-board.result c.no_counts-sent.result c.args.cluster (c.new-board.ensures ∙ c.in-Ok.ensures) c.no_counts-sent.ensures)
+    (begins_so c.new-board.result c.no_numbers-sent.result c.args.cluster (c.new-board.ensures ∙ c.in-Ok.ensures) c.no_numbers-sent.ensures)
     c.in_default.ensures.ends c.told-told.ensures.meant c.new-nowhere.ensures told) c.told-told.ensures.told
 
 pub returns-clause-stopped : goal.returns-clause-stopped

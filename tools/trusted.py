@@ -88,7 +88,7 @@ CHAPTERS = [
 
 # whose public contracts a user of the program relies on, and what they are for
 ROOTS = [
-    ("What the commands promise in addition", ["script_commands", "run_commands", "raysim_commands", "raysim_streams", "raysim_options", "raysim_files"]),
+    ("What the commands promise in addition", ["script_commands", "run_commands", "raysim_commands", "raysim_streams", "raysim_options", "raysim_calls", "kept_lists", "raysim_files"]),
     ("What a run and its parts promise in addition",
      ["protocol_board", "protocol_core", "seats", "report_lines", "report_text", "segment", "evaluation", "script_check", "script_syntax", "script_tokens",
       "event_files", "report_json", "log_text", "message_text", "why_text", "waits", "main_text", "lineage_text", "timeline", "page_text", "engine_text", "lineage",

@@ -1,8 +1,10 @@
 -- The table of what comes of all lists.
-use Rattle.std.specs.Prelude.{ℕ, ◌+◌, ◌==◌, Bool, true, false, if◌then◌else◌, nat_lt, List, [], ◌∷◌, ◌++◌, length, Option, Some, None, codes}
+use Rattle.std.specs.Prelude.{ℕ, ◌+◌, ◌==◌, ◌<◌, ◌^◌, IfSome, Bool, true, false, if◌then◌else◌, nat_lt, List, [], ◌∷◌, ◌++◌, length, Option, Some, None, codes}
 use Rattle.std.specs.Fmt.{decimal}
 use Rattle.log_entries.specs.Texts.{event_text}
+use Rattle.event_files.specs.Lines.{IsEvent}
 use Rattle.event_files.specs.Printing.{events_text}
+use Rattle.ids.specs.Texts.{IsObject}
 use Rattle.event_log.specs.Entries.{Event, FaultKind, OwnerDied, PutLost, RetriesUsed}
 use Rattle.report_text.specs.of_report_lines.Texts.{fault_text, kind_name}
 use Rattle.fault_lists.specs.declared.ending.RunEnd.{RunEnd}
@@ -88,6 +90,17 @@ list_text t = fault_list_text t.list ++ (codes ": " ++ end_text t.end)
 -- an event file that says what the list does, behind a comment that tells what comes of it
 abbrev pub list_file : List Event → Tried → List ℕ
 list_file events t = codes "# " ++ (list_text t ++ (codes "\n" ++ (events_text (event_list events t.list) ++ codes "settle\n")))
+
+-- the numbers of what is told of a list fit their types: those of the fault, of the notice behind it, of its place, and of how main ended
+abbrev pub EndFits : RunEnd → Type 0
+EndFits (ends.Faulted f) = IsObject f.object
+EndFits e = Unit {0}
+
+pub record AreTold (t : Tried) : Type 0 where
+  pub fault : IsEvent t.list.fault
+  pub notice : IfSome t.list.notice IsEvent
+  pub place : t.list.place < 2 ^ 64
+  pub end : EndFits t.end
 
 -- ---- the table
 

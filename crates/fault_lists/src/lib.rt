@@ -4,6 +4,7 @@
 mod all_lists;
 mod choice;
 mod ending;
+pub mod law;
 mod lines;
 mod log_events;
 mod seen;

@@ -8,12 +8,12 @@ use crate::limits::SETTLED;
 use crate::reasons::{Course, Known, List};
 use crate::replays::Texts;
 use crate::told::{OUTPUT, Stop, fault, no_memory, stopped, tell};
+use raysim_calls::FaultsCall;
 use raysim_commands::{
-    Cluster, CommandRefusal, EndKind, FaultChoice, FaultKind, Tracked, TriedFaults, faults,
-    first_of, list_file,
+    CommandRefusal, EndKind, FaultChoice, FaultKind, Tracked, TriedFaults, faults, first_of,
+    list_file,
 };
 use raysim_files::{WithError, try_output, write_whole};
-use raysim_options::FaultsOptions;
 use refusal_reasons::ListKind;
 use std::alloc::{AllocError, Global};
 use std::io::{Error, ErrorKind};
@@ -46,7 +46,7 @@ fn file_name(kind: EndKind) -> &'static str {
 
 /// Which faults are tried, and how many lists at most.
 #[derive(Clone, Copy)]
-struct Trial {
+struct Wanted {
     choice: FaultChoice,
     most: usize,
 }
@@ -97,32 +97,31 @@ fn choice_of(names: &str) -> Result<FaultChoice, &str> {
 /// Tries a fault at every place of a run, writes the table, and the lists where they are asked for; why it stops, where it does, is told.
 pub fn over_each_place<R: Files + Print + Eprint + AllocGlobal + Clock>(
     rt: &R,
-    options: &FaultsOptions<'_>,
-    cluster: Cluster,
+    trial: &FaultsCall<'_>,
     asked: Asked,
 ) -> ExitCode {
-    let mut trial = Trial {
+    let mut wanted = Wanted {
         choice: USUAL,
         most: usize::MAX,
     };
-    if let Some(names) = options.of {
+    if let Some(names) = trial.of {
         match choice_of(names) {
-            Ok(choice) => trial.choice = choice,
+            Ok(choice) => wanted.choice = choice,
             Err(name) => return no_kind(rt, name),
         }
     }
-    if let Some(text) = options.most {
+    if let Some(text) = trial.most {
         match text.parse::<usize>() {
-            Ok(most) => trial.most = most,
+            Ok(most) => wanted.most = most,
             Err(_) => return fault(rt, text, "is no number of lists"),
         }
     }
-    if let Some(folder) = options.out {
+    if let Some(folder) = trial.out {
         if !is_fit(rt, folder) {
             return ExitCode::FAILURE;
         }
     }
-    try_faults(rt, options, cluster, trial, asked)
+    try_faults(rt, trial, wanted, asked)
 }
 
 /// Tells that a name is none of a fault.
@@ -141,12 +140,11 @@ fn no_kind<R: Eprint>(rt: &R, name: &str) -> ExitCode {
 
 fn try_faults<R: Files + Print + Eprint + AllocGlobal + Clock>(
     rt: &R,
-    options: &FaultsOptions<'_>,
-    cluster: Cluster,
-    trial: Trial,
+    trial: &FaultsCall<'_>,
+    wanted: Wanted,
     asked: Asked,
 ) -> ExitCode {
-    let Some(texts) = read_texts(rt, options, cluster) else {
+    let Some(texts) = read_texts(rt, trial) else {
         return ExitCode::FAILURE;
     };
     let mut output = WithError::new(io::writer(rt));
@@ -154,37 +152,32 @@ fn try_faults<R: Files + Print + Eprint + AllocGlobal + Clock>(
         rt.alloc(),
         &mut Tracked::reader(texts.script.as_slice()),
         &mut Tracked::reader(texts.events.as_slice()),
-        cluster,
-        trial.choice,
-        trial.most,
+        trial.cluster,
+        wanted.choice,
+        wanted.most,
         &mut Tracked::writer(&mut output),
         &mut TrialLife::new(rt, asked),
     );
     let error = output.error();
     let ending = match done {
-        Ok(tried) => write_lists(rt, options, &tried),
+        Ok(tried) => write_lists(rt, trial, &tried),
         Err(refusal) => {
             let (text, events) = (texts.script.as_slice(), texts.events.as_slice());
             let stop = Stop::of_writer(refusal, OUTPUT, error);
-            tell(rt, stop, &known_of(options, cluster, text, events));
+            tell(rt, stop, &known_of(trial, text, events));
             ExitCode::FAILURE
         }
     };
-    if let Some(file) = options.events {
+    if let Some(file) = trial.events {
         let (front, text) = (texts.front.as_slice(), texts.script.as_slice());
-        tell_misfits(rt, file, front, cluster, options.script, text);
+        tell_misfits(rt, file, front, trial.cluster, trial.script, text);
     }
     ending
 }
 
 /// What is known of a trial that stops.
-fn known_of<'a, 'b>(
-    options: &FaultsOptions<'a>,
-    cluster: Cluster,
-    text: &'b [u8],
-    events: &'b [u8],
-) -> Known<'a, 'b> {
-    let list = match options.events {
+fn known_of<'a, 'b>(trial: &FaultsCall<'a>, text: &'b [u8], events: &'b [u8]) -> Known<'a, 'b> {
+    let list = match trial.events {
         Some(file) => Some(List {
             kind: ListKind::Events,
             file,
@@ -193,39 +186,35 @@ fn known_of<'a, 'b>(
         None => None,
     };
     Known {
-        explain: options.explain,
-        script: options.script,
+        explain: trial.explain,
+        script: trial.script,
         text,
         list,
-        course: Some(Course::Replayed(cluster)),
+        course: Some(Course::Replayed(trial.cluster)),
     }
 }
 
 /// Reads both files, or tells why they can't be read. Without a file of events the run is settled.
-fn read_texts<R: Files + Eprint + AllocGlobal>(
-    rt: &R,
-    options: &FaultsOptions<'_>,
-    cluster: Cluster,
-) -> Option<Texts> {
-    let script = match read_script_file(rt, options.script) {
+fn read_texts<R: Files + Eprint + AllocGlobal>(rt: &R, trial: &FaultsCall<'_>) -> Option<Texts> {
+    let script = match read_script_file(rt, trial.script) {
         Ok(script) => script,
         Err(stop) => {
-            tell(rt, stop, &known_of(options, cluster, b"", b""));
+            tell(rt, stop, &known_of(trial, b"", b""));
             return None;
         }
     };
-    match read_events(rt, options, script.as_slice()) {
+    match read_events(rt, trial, script.as_slice()) {
         Ok(ReadEvents { events, front }) => Some(Texts {
             script,
             events,
             front,
         }),
         Err(stop) => {
-            let shown = shown_bytes(rt, options);
+            let shown = shown_bytes(rt, trial);
             tell(
                 rt,
                 stop,
-                &known_of(options, cluster, script.as_slice(), shown.as_slice()),
+                &known_of(trial, script.as_slice(), shown.as_slice()),
             );
             None
         }
@@ -233,19 +222,19 @@ fn read_texts<R: Files + Eprint + AllocGlobal>(
 }
 
 /// What is shown of the event file, if that is asked for.
-fn shown_bytes<R: Files + AllocGlobal>(rt: &R, options: &FaultsOptions<'_>) -> Vec<u8> {
-    match options.events {
-        Some(path) if options.explain => first_bytes(rt, path),
+fn shown_bytes<R: Files + AllocGlobal>(rt: &R, trial: &FaultsCall<'_>) -> Vec<u8> {
+    match trial.events {
+        Some(path) if trial.explain => first_bytes(rt, path),
         _ => Vec::new(rt.alloc()),
     }
 }
 
 fn read_events<'a, R: Files + AllocGlobal>(
     rt: &R,
-    options: &FaultsOptions<'a>,
+    trial: &FaultsCall<'a>,
     script: &[u8],
 ) -> Result<ReadEvents, Stop<'a>> {
-    if let Some(path) = options.events {
+    if let Some(path) = trial.events {
         return inputs::read_events(rt, script, path);
     }
     match settled(rt.alloc()) {
@@ -353,10 +342,10 @@ fn is_missing<R: Files>(rt: &R, path: &str) -> bool {
 /// Writes the first list for each end that there is into the folder, which is made where it isn't there, and says with which status the program ends.
 fn write_lists<R: Files + Eprint + AllocGlobal>(
     rt: &R,
-    options: &FaultsOptions<'_>,
+    trial: &FaultsCall<'_>,
     tried: &TriedFaults,
 ) -> ExitCode {
-    let Some(folder) = options.out else {
+    let Some(folder) = trial.out else {
         return ExitCode::from(tried.status);
     };
     for kind in ENDS {

@@ -2,10 +2,8 @@
 
 use event_files::MOST_EVENTS;
 use raysim_commands::Cluster;
-use run_heads::{
-    CLUSTER_WORD, SCRIPT_WORD, cluster_words, head_text, said_of, script_words, with_head,
-};
-use std::alloc::{AllocError, Global};
+use run_heads::{CLUSTER_WORD, SCRIPT_WORD, cluster_words, said_of, script_words};
+use std::alloc::Global;
 use std::io;
 use std::io::Read;
 
@@ -47,20 +45,6 @@ impl<R: Read> Read for Fronted<R> {
         }
         done
     }
-}
-
-/// A history with the lines that say of which run it is.
-pub fn headed(
-    alloc: Global,
-    cluster: Cluster,
-    threads: u8,
-    script: &[u8],
-    history: &[u8],
-) -> Result<Vec<u8>, AllocError> {
-    let words = cluster_words(alloc, cluster.nodes(), cluster.slots())?;
-    let sum = script_words(alloc, script)?;
-    let head = head_text(alloc, words.as_str(), threads, sum.as_str())?;
-    with_head(alloc, head.as_str(), history)
 }
 
 /// What a history says, unless it says nothing or has bytes that no such line has.

@@ -1,13 +1,11 @@
 // How the program reads scripts, lists of events and plans from their files.
 
 use crate::heads::Fronted;
-use crate::kept::{events_text, lines_text, plan_text};
 use crate::told::Stop;
-use event_reading::{read_event_file, read_lines, read_plan_file};
-use raysim_commands::{CommandRefusal, Tracked, check, read_at_most, read_script};
+use kept_lists::{read_event_list, read_first_format, read_plan_list};
+use raysim_commands::{Tracked, check, read_at_most, read_script};
 use raysim_files::WithError;
 use refusal_reasons::ListKind;
-use std::alloc::AllocError;
 use std::fs;
 use std::rt::Files;
 
@@ -47,13 +45,10 @@ pub fn read_events<'a, R: Files + AllocGlobal>(
 ) -> Result<ReadEvents, Stop<'a>> {
     let mut file = open(rt, script, path)?;
     let mut fronted = Fronted::new(rt.alloc(), &mut file);
-    let read = read_event_file(rt.alloc(), &mut Tracked::reader(&mut fronted));
+    let read = read_event_list(rt.alloc(), &mut Tracked::reader(&mut fronted));
     let front = fronted.into_front();
     match read {
-        Ok(kept) => {
-            let events = in_memory(events_text(rt.alloc(), &kept))?;
-            Ok(ReadEvents { events, front })
-        }
+        Ok(events) => Ok(ReadEvents { events, front }),
         Err(refusal) => {
             let stop = Stop::of_list(refusal, ListKind::Events, path, file.error());
             Err(behind(rt, script, stop))
@@ -68,9 +63,8 @@ pub fn read_plain_events<'a, R: Files + AllocGlobal>(
     path: &'a str,
 ) -> Result<Vec<u8>, Stop<'a>> {
     let mut file = open(rt, script, path)?;
-    let read = read_lines(rt.alloc(), &mut Tracked::reader(&mut file));
-    match read {
-        Ok(kept) => in_memory(lines_text(rt.alloc(), &kept.says, &kept.numbers)),
+    match read_first_format(rt.alloc(), &mut Tracked::reader(&mut file)) {
+        Ok(events) => Ok(events),
         Err(refusal) => {
             let stop = Stop::of_list(refusal, ListKind::FirstFormat, path, file.error());
             Err(behind(rt, script, stop))
@@ -85,9 +79,8 @@ pub fn read_plan<'a, R: Files + AllocGlobal>(
     path: &'a str,
 ) -> Result<Vec<u8>, Stop<'a>> {
     let mut file = open(rt, script, path)?;
-    let read = read_plan_file(rt.alloc(), &mut Tracked::reader(&mut file));
-    match read {
-        Ok(plan) => in_memory(plan_text(rt.alloc(), &plan)),
+    match read_plan_list(rt.alloc(), &mut Tracked::reader(&mut file)) {
+        Ok(plan) => Ok(plan),
         Err(refusal) => {
             let stop = Stop::of_list(refusal, ListKind::Plan, path, file.error());
             Err(behind(rt, script, stop))
@@ -119,14 +112,6 @@ fn open<'a, R: Files + AllocGlobal>(
     match fs::open(rt, path) {
         Ok(file) => Ok(WithError::new(file)),
         Err(error) => Err(behind(rt, script, Stop::reading(path, error))),
-    }
-}
-
-/// A text, unless there was no memory for it.
-fn in_memory<'a>(text: Result<String, AllocError>) -> Result<Vec<u8>, Stop<'a>> {
-    match text {
-        Ok(text) => Ok(text.into_bytes()),
-        Err(_) => Err(Stop::Refused(CommandRefusal::NoMemory)),
     }
 }
 

@@ -2,7 +2,7 @@
 
 use crate::reasons::{Course, Known};
 use crate::told::{Printed, stopped};
-use crate::views::Views;
+use raysim_calls::Views;
 use raysim_commands::{CommandRefusal, Form, SoFar, Tracked, put_all, run_so_far, sim_so_far};
 use raysim_files::WithError;
 use std::io;

@@ -1,6 +1,7 @@
 // Whether the files that a command writes are fit to be written, which is asked before anything is read or run.
 
 use crate::told::{Stop, stopped};
+use raysim_calls::Views;
 use raysim_files::{FilePlace, first_clash, place_of, try_output};
 use std::rt::Files;
 
@@ -13,11 +14,10 @@ pub struct Paths<'a> {
     pub beside: Option<&'a str>,
     /// What that file is called where a clash is told.
     pub beside_name: &'a str,
-    /// Where the history is written, if it is; so the timeline, the lineage and the page.
+    /// Where the history is written, if it is.
     pub history: Option<&'a str>,
-    pub timeline: Option<&'a str>,
-    pub lineage: Option<&'a str>,
-    pub page: Option<&'a str>,
+    /// Where the timeline, the lineage and the page are written, if they are.
+    pub views: Views<'a>,
 }
 
 /// The system's name for the standard output.
@@ -34,9 +34,9 @@ impl<'a> Paths<'a> {
             place(rt, self.beside),
             place_of(rt, STANDARD_OUTPUT),
             place(rt, self.history),
-            place(rt, self.timeline),
-            place(rt, self.lineage),
-            place(rt, self.page),
+            place(rt, self.views.timeline),
+            place(rt, self.views.lineage),
+            place(rt, self.views.page),
         ]
     }
 
@@ -44,18 +44,15 @@ impl<'a> Paths<'a> {
     fn output(&self, at: usize) -> (&'a str, &'a str) {
         match at {
             3 => ("--history", self.history.unwrap_or("")),
-            4 => ("--timeline", self.timeline.unwrap_or("")),
-            5 => ("--lineage", self.lineage.unwrap_or("")),
-            _ => ("--page", self.page.unwrap_or("")),
+            4 => ("--timeline", self.views.timeline.unwrap_or("")),
+            5 => ("--lineage", self.views.lineage.unwrap_or("")),
+            _ => ("--page", self.views.page.unwrap_or("")),
         }
     }
 
     /// Whether a file is written beside the report.
     fn has_outputs(&self) -> bool {
-        self.history.is_some()
-            || self.timeline.is_some()
-            || self.lineage.is_some()
-            || self.page.is_some()
+        self.history.is_some() || !self.views.is_report_alone()
     }
 }
 
@@ -77,9 +74,9 @@ pub fn are_fit<R: Files + Eprint + AllocGlobal>(rt: &R, paths: &Paths<'_>) -> bo
         return false;
     }
     is_fit(rt, paths.history)
-        && is_fit(rt, paths.timeline)
-        && is_fit(rt, paths.lineage)
-        && is_fit(rt, paths.page)
+        && is_fit(rt, paths.views.timeline)
+        && is_fit(rt, paths.views.lineage)
+        && is_fit(rt, paths.views.page)
 }
 
 /// Tells that an output is another file, too.

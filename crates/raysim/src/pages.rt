@@ -2,7 +2,8 @@
 
 use crate::reasons::Known;
 use crate::told::tell_beside;
-use crate::views::{Views, write_done};
+use crate::views::write_done;
+use raysim_calls::Views;
 use raysim_commands::{Cluster, CommandRefusal, Tracked, page};
 use std::rt::Files;
 

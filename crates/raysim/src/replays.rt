@@ -7,7 +7,8 @@ use crate::pages::is_page_written;
 use crate::reasons::{Course, Known, List};
 use crate::told::{Printed, Stop, tell, tell_beside};
 use crate::traps::with_trap_of_replay;
-use crate::views::{View, Views, memory_of, write_done};
+use crate::views::{memory_of, write_done};
+use raysim_calls::{ReplayCall, View, Views};
 use raysim_commands::{Cluster, CommandRefusal, Form, RunMemory, Tracked, migrate, sim, state};
 use raysim_files::WithError;
 use refusal_reasons::ListKind;
@@ -15,40 +16,32 @@ use std::io;
 use std::process::ExitCode;
 use std::rt::Files;
 
-/// A script and an event file, by their files, the cluster, and whether a refusal's place is asked for.
-#[derive(Clone, Copy)]
-pub struct Replayed<'a> {
-    /// The script's file.
-    pub script: &'a str,
-    /// The event file.
-    pub events: &'a str,
-    pub cluster: Cluster,
-    /// Whether a refusal's place is asked for.
-    pub explain: bool,
+/// What is known of a replay that stops, where the list is of that kind.
+fn known_of<'a, 'b>(
+    replayed: &ReplayCall<'a>,
+    kind: ListKind,
+    text: &'b [u8],
+    events: &'b [u8],
+) -> Known<'a, 'b> {
+    let list = List {
+        kind,
+        file: replayed.events,
+        text: events,
+    };
+    Known {
+        explain: replayed.explain,
+        script: replayed.script,
+        text,
+        list: Some(list),
+        course: Some(Course::Replayed(replayed.cluster)),
+    }
 }
 
-impl<'a> Replayed<'a> {
-    /// What is known of a command that stops, where the list is of that kind.
-    fn known<'b>(&self, kind: ListKind, text: &'b [u8], events: &'b [u8]) -> Known<'a, 'b> {
-        let list = List {
-            kind,
-            file: self.events,
-            text: events,
-        };
-        Known {
-            explain: self.explain,
-            script: self.script,
-            text,
-            list: Some(list),
-            course: Some(Course::Replayed(self.cluster)),
-        }
-    }
-
-    /// Tells where the list says that it was recorded of another run.
-    fn tell_misfits<R: Eprint + AllocGlobal>(&self, rt: &R, texts: &Texts) {
-        let (front, text) = (texts.front.as_slice(), texts.script.as_slice());
-        tell_misfits(rt, self.events, front, self.cluster, self.script, text);
-    }
+/// Tells where the list says that it was recorded of another run.
+fn tell_misfits_of<R: Eprint + AllocGlobal>(rt: &R, replayed: &ReplayCall<'_>, texts: &Texts) {
+    let (front, text) = (texts.front.as_slice(), texts.script.as_slice());
+    let (script, events) = (replayed.script, replayed.events);
+    tell_misfits(rt, events, front, replayed.cluster, script, text);
 }
 
 /// What was read of both files, and how the list's begins.
@@ -66,7 +59,7 @@ pub struct Texts {
 /// does, is told.
 pub fn over_events<R: Files + Print + Eprint + AllocGlobal>(
     rt: &R,
-    replayed: &Replayed<'_>,
+    replayed: &ReplayCall<'_>,
     form: Form,
     views: &Views<'_>,
 ) -> ExitCode {
@@ -74,14 +67,14 @@ pub fn over_events<R: Files + Print + Eprint + AllocGlobal>(
         return ExitCode::FAILURE;
     };
     let ending = print_all(rt, replayed, &texts, &form, views);
-    replayed.tell_misfits(rt, &texts);
+    tell_misfits_of(rt, replayed, &texts);
     ending
 }
 
 /// Replays what was read, and writes what is asked for.
 fn print_all<R: Files + Print + Eprint + AllocGlobal>(
     rt: &R,
-    replayed: &Replayed<'_>,
+    replayed: &ReplayCall<'_>,
     texts: &Texts,
     form: &Form,
     views: &Views<'_>,
@@ -90,7 +83,7 @@ fn print_all<R: Files + Print + Eprint + AllocGlobal>(
     let printed = print_replay(rt, replayed.cluster, texts, form, views);
     let printed = with_trap_of_replay(rt, printed, script, listed, replayed.cluster, *form);
     if let Some(stop) = printed.stop() {
-        let known = replayed.known(ListKind::Events, script, listed);
+        let known = known_of(replayed, ListKind::Events, script, listed);
         tell(rt, stop, &known);
         print_so_far(rt, &printed.done, &known, *form, views);
         if !stop.is_of_writing() {
@@ -106,7 +99,7 @@ fn print_all<R: Files + Print + Eprint + AllocGlobal>(
 /// Replays an event file of format 1 and writes it as one of format 2; why it stops, where it does, is told.
 pub fn migrate_events<R: Files + Print + Eprint + AllocGlobal>(
     rt: &R,
-    replayed: &Replayed<'_>,
+    replayed: &ReplayCall<'_>,
 ) -> ExitCode {
     let Some(texts) = read_texts(rt, replayed, ListKind::FirstFormat) else {
         return ExitCode::FAILURE;
@@ -117,7 +110,7 @@ pub fn migrate_events<R: Files + Print + Eprint + AllocGlobal>(
         tell(
             rt,
             stop,
-            &replayed.known(ListKind::FirstFormat, text, events),
+            &known_of(replayed, ListKind::FirstFormat, text, events),
         );
     }
     printed.ending()
@@ -126,7 +119,7 @@ pub fn migrate_events<R: Files + Print + Eprint + AllocGlobal>(
 /// Replays an event file and tells what is alive behind the event of that number; why it stops, where it does, is told.
 pub fn state_at<R: Files + Print + Eprint + AllocGlobal>(
     rt: &R,
-    replayed: &Replayed<'_>,
+    replayed: &ReplayCall<'_>,
     at: usize,
 ) -> ExitCode {
     let Some(texts) = read_texts(rt, replayed, ListKind::Events) else {
@@ -135,9 +128,13 @@ pub fn state_at<R: Files + Print + Eprint + AllocGlobal>(
     let printed = print_state(rt, replayed.cluster, &texts, at);
     if let Some(stop) = printed.stop() {
         let (text, events) = (texts.script.as_slice(), texts.events.as_slice());
-        tell(rt, stop, &replayed.known(ListKind::Events, text, events));
+        tell(
+            rt,
+            stop,
+            &known_of(replayed, ListKind::Events, text, events),
+        );
     }
-    replayed.tell_misfits(rt, &texts);
+    tell_misfits_of(rt, replayed, &texts);
     printed.ending()
 }
 
@@ -211,13 +208,13 @@ fn read_first_format<'a, R: Files + AllocGlobal>(
 /// Reads both files, or tells why they can't be read.
 fn read_texts<R: Files + Eprint + AllocGlobal>(
     rt: &R,
-    replayed: &Replayed<'_>,
+    replayed: &ReplayCall<'_>,
     kind: ListKind,
 ) -> Option<Texts> {
     let script = match read_script_file(rt, replayed.script) {
         Ok(script) => script,
         Err(stop) => {
-            tell(rt, stop, &replayed.known(kind, b"", b""));
+            tell(rt, stop, &known_of(replayed, kind, b"", b""));
             return None;
         }
     };
@@ -240,7 +237,7 @@ fn read_texts<R: Files + Eprint + AllocGlobal>(
             tell(
                 rt,
                 stop,
-                &replayed.known(kind, script.as_slice(), shown.as_slice()),
+                &known_of(replayed, kind, script.as_slice(), shown.as_slice()),
             );
             None
         }
@@ -250,7 +247,7 @@ fn read_texts<R: Files + Eprint + AllocGlobal>(
 /// Writes the other views of a replay, and says whether all are out.
 pub fn are_written<R: Files + Eprint + AllocGlobal>(
     rt: &R,
-    replayed: &Replayed<'_>,
+    replayed: &ReplayCall<'_>,
     texts: &Texts,
     views: &Views<'_>,
     report: &Result<u8, CommandRefusal>,
@@ -265,7 +262,7 @@ pub fn are_written<R: Files + Eprint + AllocGlobal>(
 /// Does the replay once more, and writes a view of it, if one is asked for; says whether it is out.
 fn is_written<R: Files + Eprint + AllocGlobal>(
     rt: &R,
-    replayed: &Replayed<'_>,
+    replayed: &ReplayCall<'_>,
     texts: &Texts,
     view: &Option<View<'_>>,
     report: &Result<u8, CommandRefusal>,

@@ -7,7 +7,8 @@ use crate::pages::{TO_ITS_END, is_page_written};
 use crate::reasons::{Course, Known};
 use crate::told::{Printed, tell, tell_beside};
 use crate::traps::with_trap_of_run;
-use crate::views::{View, Views, memory_of, write_done};
+use crate::views::{memory_of, write_done};
+use raysim_calls::{View, Views};
 use raysim_commands::{
     Cluster, CommandRefusal, Engine, Form, RunMemory, Tracked, Unwatched, Watcher, check, export,
     run, serial,

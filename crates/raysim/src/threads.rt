@@ -2,18 +2,19 @@
 
 ghost use Rattle.raysim_options.specs.Reads.{AreThreads};
 
-use crate::heads::{headed, tell_length};
+use crate::heads::tell_length;
 use crate::inputs;
 use crate::inputs::{first_bytes, read_script_file};
 use crate::life::{Asked, SharedLife};
 use crate::reasons::{Course, Known, List};
-use crate::replays::{Replayed, Texts, are_written};
+use crate::replays::{Texts, are_written};
 use crate::told::{Printed, Stop, stopped, tell, tell_beside};
-use crate::views::{Views, in_memory, write_done};
-use raysim_commands::{Cluster, CommandRefusal, Form, Tracked, put_all, run_threaded};
+use crate::views::{in_memory, write_done};
+use raysim_calls::{ReplayCall, ThreadsCall};
+use raysim_commands::{CommandRefusal, Tracked, put_all, run_threaded};
 use raysim_files::WithError;
-use raysim_options::RunOptions;
 use refusal_reasons::ListKind;
+use run_heads::headed;
 use std::io;
 use std::process::ExitCode;
 use std::rt::{Clock, Files};
@@ -32,45 +33,34 @@ struct Unwritten {
 /// it, each also where another could not be written; why it stops, where it does, is told. Where the run is given up, nothing is written.
 pub fn over_threads<R: Files + Print + Eprint + AllocGlobal + Threads + Wait + Clock + Sync>(
     rt: &R,
-    options: &RunOptions<'_>,
-    cluster: Cluster,
-    form: Form,
-    views: &Views<'_>,
+    run: &ThreadsCall<'_>,
     asked: Asked,
 ) -> ExitCode
-    requires { AreThreads options.now.threads }
+    requires { AreThreads run.now.threads }
 {
-    let script = match read_script_file(rt, options.script) {
+    let script = match read_script_file(rt, run.drive.script) {
         Ok(script) => script,
         Err(stop) => {
-            tell(rt, stop, &known_of(options, b"", b""));
+            tell(rt, stop, &known_of(run, b"", b""));
             return ExitCode::FAILURE;
         }
     };
-    let plan = match read_plan(rt, options, script.as_slice()) {
+    let plan = match read_plan(rt, run, script.as_slice()) {
         Ok(plan) => plan,
         Err(stop) => {
-            let shown = shown_bytes(rt, options);
+            let shown = shown_bytes(rt, run);
             tell(
                 rt,
                 stop,
-                &known_of(options, script.as_slice(), shown.as_slice()),
+                &known_of(run, script.as_slice(), shown.as_slice()),
             );
             return ExitCode::FAILURE;
         }
     };
-    match run_in_memory(
-        rt,
-        options,
-        script.as_slice(),
-        plan.as_slice(),
-        cluster,
-        form,
-        asked,
-    ) {
-        Ok(unwritten) => write_all(rt, options, script, unwritten, cluster, views),
+    match run_in_memory(rt, run, script.as_slice(), plan.as_slice(), asked) {
+        Ok(unwritten) => write_all(rt, run, script, unwritten),
         Err(stop) => {
-            let known = known_of(options, script.as_slice(), plan.as_slice());
+            let known = known_of(run, script.as_slice(), plan.as_slice());
             tell(rt, stop, &known);
             ExitCode::FAILURE
         }
@@ -78,8 +68,8 @@ pub fn over_threads<R: Files + Print + Eprint + AllocGlobal + Threads + Wait + C
 }
 
 /// What is known of a run that stops.
-fn known_of<'a, 'b>(options: &RunOptions<'a>, text: &'b [u8], plan: &'b [u8]) -> Known<'a, 'b> {
-    let list = match options.plan {
+fn known_of<'a, 'b>(run: &ThreadsCall<'a>, text: &'b [u8], plan: &'b [u8]) -> Known<'a, 'b> {
+    let list = match run.plan {
         Some(file) => Some(List {
             kind: ListKind::Plan,
             file,
@@ -88,8 +78,8 @@ fn known_of<'a, 'b>(options: &RunOptions<'a>, text: &'b [u8], plan: &'b [u8]) ->
         None => None,
     };
     Known {
-        explain: options.explain,
-        script: options.script,
+        explain: run.drive.explain,
+        script: run.drive.script,
         text,
         list,
         course: Some(Course::OnThreads),
@@ -97,9 +87,9 @@ fn known_of<'a, 'b>(options: &RunOptions<'a>, text: &'b [u8], plan: &'b [u8]) ->
 }
 
 /// What is shown of the plan, if that is asked for.
-fn shown_bytes<R: Files + AllocGlobal>(rt: &R, options: &RunOptions<'_>) -> Vec<u8> {
-    match options.plan {
-        Some(path) if options.explain => first_bytes(rt, path),
+fn shown_bytes<R: Files + AllocGlobal>(rt: &R, run: &ThreadsCall<'_>) -> Vec<u8> {
+    match run.plan {
+        Some(path) if run.drive.explain => first_bytes(rt, path),
         _ => Vec::new(rt.alloc()),
     }
 }
@@ -107,10 +97,10 @@ fn shown_bytes<R: Files + AllocGlobal>(rt: &R, options: &RunOptions<'_>) -> Vec<
 /// The plan's bytes, none where there is no plan. Where they can't be read, the script's refusal counts, if it has one.
 fn read_plan<'a, R: Files + AllocGlobal>(
     rt: &R,
-    options: &RunOptions<'a>,
+    run: &ThreadsCall<'a>,
     script: &[u8],
 ) -> Result<Vec<u8>, Stop<'a>> {
-    match options.plan {
+    match run.plan {
         Some(path) => inputs::read_plan(rt, script, path),
         None => Ok(Vec::new(rt.alloc())),
     }
@@ -119,14 +109,12 @@ fn read_plan<'a, R: Files + AllocGlobal>(
 /// Runs the script, in memory.
 fn run_in_memory<'a, R: Eprint + AllocGlobal + Threads + Wait + Clock + Sync>(
     rt: &R,
-    options: &RunOptions<'a>,
+    run: &ThreadsCall<'a>,
     script: &[u8],
     plan: &[u8],
-    cluster: Cluster,
-    form: Form,
     asked: Asked,
 ) -> Result<Unwritten, Stop<'a>>
-    requires { AreThreads options.now.threads }
+    requires { AreThreads run.now.threads }
 {
     let mut history = Vec::new(rt.alloc());
     let mut report = Vec::new(rt.alloc());
@@ -136,9 +124,9 @@ fn run_in_memory<'a, R: Eprint + AllocGlobal + Threads + Wait + Clock + Sync>(
         rt.alloc(),
         &mut Tracked::reader(script),
         &mut Tracked::reader(plan),
-        cluster,
-        form,
-        options.threads,
+        run.drive.cluster,
+        run.drive.form,
+        run.threads,
         &life,
         &mut Tracked::writer(&mut history),
         &mut Tracked::writer(&mut report),
@@ -168,29 +156,27 @@ fn print_report<R: Print>(rt: &R, report: &[u8], status: u8) -> Printed {
 /// Writes history, report and views, and says with which status the program ends.
 fn write_all<R: Files + Print + Eprint + AllocGlobal>(
     rt: &R,
-    options: &RunOptions<'_>,
+    run: &ThreadsCall<'_>,
     script: Vec<u8>,
     unwritten: Unwritten,
-    cluster: Cluster,
-    views: &Views<'_>,
 ) -> ExitCode {
     let events = unwritten.history;
-    let history = keep_history(rt, options, cluster, script.as_slice(), events.as_slice());
+    let history = keep_history(rt, run, script.as_slice(), events.as_slice());
     let printed = print_report(rt, unwritten.report.as_slice(), unwritten.status);
     if let Some(stop) = printed.stop() {
         stopped(rt, stop);
     }
     if let Err(stop) = history {
-        let path = options.history.unwrap_or("");
+        let path = run.history.unwrap_or("");
         tell_beside(rt, stop, &Known::nothing(), path, &printed.done);
     }
-    if let Some(path) = options.history {
+    if let Some(path) = run.history {
         tell_length(rt, path, events.as_slice());
     }
-    let replayed = Replayed {
-        script: options.script,
+    let replayed = ReplayCall {
+        script: run.drive.script,
         events: "its history",
-        cluster,
+        cluster: run.drive.cluster,
         explain: false,
     };
     let texts = Texts {
@@ -198,7 +184,7 @@ fn write_all<R: Files + Print + Eprint + AllocGlobal>(
         events,
         front: Vec::new(rt.alloc()),
     };
-    if are_written(rt, &replayed, &texts, views, &printed.done) && history.is_ok() {
+    if are_written(rt, &replayed, &texts, &run.drive.views, &printed.done) && history.is_ok() {
         return printed.ending();
     }
     ExitCode::FAILURE
@@ -207,15 +193,15 @@ fn write_all<R: Files + Print + Eprint + AllocGlobal>(
 /// Writes the history with the lines that say of which run it is, if that is asked for.
 fn keep_history<'a, R: Files + AllocGlobal>(
     rt: &R,
-    options: &RunOptions<'a>,
-    cluster: Cluster,
+    run: &ThreadsCall<'a>,
     script: &[u8],
     history: &[u8],
 ) -> Result<(), Stop<'a>> {
-    let Some(path) = options.history else {
+    let Some(path) = run.history else {
         return Ok(());
     };
-    match headed(rt.alloc(), cluster, options.threads, script, history) {
+    let (nodes, slots) = (run.drive.cluster.nodes(), run.drive.cluster.slots());
+    match headed(rt.alloc(), nodes, slots, run.threads, script, history) {
         Ok(whole) => write_done(rt, path, Ok(0), whole.as_slice()),
         Err(_) => Err(Stop::Refused(CommandRefusal::NoMemory)),
     }

@@ -54,3 +54,22 @@ pub fn with_head(alloc: Global, head: &str, history: &[u8]) -> Result<Vec<u8>, A
         }
     }
 }
+
+/// A history with the lines that say of which run it is: of this script, which began on so many nodes with so many slots each, on so many threads.
+/// What is no file of format 2 stays as it is.
+pub fn headed(
+    alloc: Global,
+    nodes: u8,
+    slots: u8,
+    threads: u8,
+    script: &[u8],
+    history: &[u8],
+) -> Result<Vec<u8>, AllocError>
+    ensures { IfOk result (λ all. all.items ≡ with_head (head_text (cluster_text nodes slots) threads (script_text script.now)) history.now) }
+{
+    let cluster = cluster_words(alloc, nodes, slots)?;
+    let sum = script_words(alloc, script)?;
+    let head = head_text(alloc, cluster.as_str(), threads, sum.as_str())?;
+    let all = with_head(alloc, head.as_str(), history)?;
+    Ok(all)
+}

@@ -5,5 +5,5 @@ mod head;
 pub mod law;
 mod reading;
 
-pub use head::{cluster_words, head_text, script_words, with_head};
+pub use head::{cluster_words, head_text, headed, script_words, with_head};
 pub use reading::{CLUSTER_WORD, SCRIPT_WORD, said_of};

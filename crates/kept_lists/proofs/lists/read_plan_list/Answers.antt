@@ -1,0 +1,9 @@
+use Rattle.std.proofs.Common.{ap}
+use Rattle.std.specs.Prelude.{string_bytes}
+use Rattle.kept_lists.proofs.Reading.{plan_read}
+use Rattle.kept_lists.proofs.lists.read_plan_list.Goals as goal
+
+pub returns-clause-read : goal.returns-clause-read
+returns-clause-read g c =
+    plan_read (g.R.Source.left c.args.reader.now) c.in_ok-plan.plan.lines (string_bytes c.in_ok-text.text) c.into_bytes.result.items (ap (λ v. v.items) c.into_bytes.ensures.value)
+    c.in_ok-plan.ensures.read c.in_ok-text.ensures

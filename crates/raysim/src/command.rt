@@ -127,11 +127,11 @@ fn run_on_threads<R: Files + Print + Eprint + AllocGlobal + Threads + Wait + Clo
     )
 }
 
-fn replay<R: Files + Print + Eprint + AllocGlobal>(
+fn replay<'a, R: Files + Print + Eprint + AllocGlobal>(
     rt: &R,
-    replayed: &ReplayCall<'_>,
+    replayed: &ReplayCall<'a>,
     form: Form,
-    views: &Views<'_>,
+    views: &Views<'a>,
 ) -> ExitCode {
     let paths = Paths {
         script: replayed.script,

@@ -25,7 +25,7 @@ use Rattle.event_reading.specs.declared.next_line.Next.TheVariants as nexts
 use Rattle.event_reading.specs.Known.{IfKnown, IsHeaderTaken, left_of}
 use Rattle.event_reading.specs.Kept.{IsKeptOf}
 use Rattle.event_reading.specs.Rows.{IsBadHere, IsLineRefusal, IsLongSettle, IsNextLine, settle_size}
-use Rattle.event_reading.specs.Files.{AreEventsKept, AreKept, AreLinesKept, AreSettlesLong, BeginsWith, ExplainsBehind, ExplainsFile, ExplainsRows, IsPlanLong, settled}
+use Rattle.event_reading.specs.Files.{AreEventsKept, AreKept, AreLinesKept, AreSettlesLong, BeginsWith, ExplainsBehind, ExplainsFile, ExplainsRows, IsPlanLong, each_is_event, settled}
 use Rattle.event_reading.proofs.Bytes.{of_known, same, through}
 
 -- ---- the numbers of lines
@@ -58,18 +58,18 @@ said_number n (b ∷ line) rest h k = let e : (b == 35) ≡ false = k in whole_l
 -- ---- files that are read
 
 -- what is kept of the lines so far, and the number of the next one; the first has the number `from`
-pub record IsReading {A : Type 0} (is : A → Type 0) (text : A → List ℕ) (from : ℕ) (k : Kept A) (number : ℕ) (b r : List ℕ) : Type 0 where
+pub record IsReading {A : Type 0} (counts : A → Bool) (is : A → Type 0) (text : A → List ℕ) (from : ℕ) (k : Kept A) (number : ℕ) (b r : List ℕ) : Type 0 where
   pub n : ℕ
   pub is_number : number ≡ n + from
   pub all : List A
   pub numbers : List ℕ
   pub read : IsReadTo is text b r all n
   pub numbered : numbers_from from true b ≡ numbers ++ numbers_from number true r
-  pub are_kept : IsKeptOf all numbers k
+  pub are_kept : IsKeptOf counts all numbers k
 
-pub reading_begins : {A : Type 0} (is : A → Type 0) (text : A → List ℕ) (from : ℕ) (k : Kept A) (known : Option (List ℕ)) → IsKeptOf [] [] k →
-    IfKnown known known (IsReading is text from k from)
-reading_begins {A} is text from k known h = same known (IsReading is text from k from) (λ b. record {
+pub reading_begins : {A : Type 0} (counts : A → Bool) (is : A → Type 0) (text : A → List ℕ) (from : ℕ) (k : Kept A) (known : Option (List ℕ)) → IsKeptOf counts [] [] k →
+    IfKnown known known (IsReading counts is text from k from)
+reading_begins {A} counts is text from k known h = same known (IsReading counts is text from k from) (λ b. record {
   n = 0;
   is_number = omega arith;
   all = [];
@@ -79,11 +79,11 @@ reading_begins {A} is text from k known h = same known (IsReading is text from k
   are_kept = h;
 })
 
-pub reading_passes : {A : Type 0} (is : A → Type 0) (text : A → List ℕ) (read : List ℕ → Option A) (from number : ℕ) (k : Kept A)
-    (before between after : Option (List ℕ)) → IfKnown before between (IsReading is text from k number) →
-    IfKnown between after (IsNextLine is text read nexts.Passed) → IfKnown before after (IsReading is text from k (number + 1))
-reading_passes {A} is text read from number k before between after h next =
-    through before between after (IsReading is text from k number) (IsNextLine is text read nexts.Passed) (IsReading is text from k (number + 1)) h next
+pub reading_passes : {A : Type 0} (counts : A → Bool) (is : A → Type 0) (text : A → List ℕ) (read : List ℕ → Option A) (from number : ℕ) (k : Kept A)
+    (before between after : Option (List ℕ)) → IfKnown before between (IsReading counts is text from k number) →
+    IfKnown between after (IsNextLine is text read nexts.Passed) → IfKnown before after (IsReading counts is text from k (number + 1))
+reading_passes {A} counts is text read from number k before between after h next =
+    through before between after (IsReading counts is text from k number) (IsNextLine is text read nexts.Passed) (IsReading counts is text from k (number + 1)) h next
     (λ b m r p q. record {
       n = p.n + 1;
       is_number = (let e = p.is_number in omega (arith, e));
@@ -94,13 +94,13 @@ reading_passes {A} is text read from number k before between after h next =
       are_kept = p.are_kept;
     })
 
-pub reading_says : {A : Type 0} (is : A → Type 0) (text : A → List ℕ) (read : List ℕ → Option A) → Reads is text read → (from number : ℕ) (k j : Kept A) (a : A)
-    (before between after : Option (List ℕ)) → IfKnown before between (IsReading is text from k number) →
+pub reading_says : {A : Type 0} (counts : A → Bool) (is : A → Type 0) (text : A → List ℕ) (read : List ℕ → Option A) → Reads is text read → (from number : ℕ) (k j : Kept A) (a : A)
+    (before between after : Option (List ℕ)) → IfKnown before between (IsReading counts is text from k number) →
     IfKnown between after (IsNextLine is text read (nexts.Said a)) →
-    ((all : List A) (numbers : List ℕ) → IsKeptOf all numbers k → IsKeptOf (all ++ a ∷ []) (numbers ++ number ∷ []) j) →
-    IfKnown before after (IsReading is text from j (number + 1))
-reading_says {A} is text read own from number k j a before between after h next keeps =
-    through before between after (IsReading is text from k number) (IsNextLine is text read (nexts.Said a)) (IsReading is text from j (number + 1)) h next
+    ((all : List A) (numbers : List ℕ) → IsKeptOf counts all numbers k → IsKeptOf counts (all ++ a ∷ []) (numbers ++ number ∷ []) j) →
+    IfKnown before after (IsReading counts is text from j (number + 1))
+reading_says {A} counts is text read own from number k j a before between after h next keeps =
+    through before between after (IsReading counts is text from k number) (IsNextLine is text read (nexts.Said a)) (IsReading counts is text from j (number + 1)) h next
     (λ b m r p q. record {
       n = p.n + 1;
       is_number = (let e = p.is_number in omega (arith, e));
@@ -116,12 +116,12 @@ all_numbered : (number from : ℕ) (b m numbers : List ℕ) → m ≡ [] → num
     numbers ≡ numbers_from from true b
 all_numbered number from b m numbers e f = sym (f ∙ ap (λ z. numbers ++ numbers_from number true z) e ∙ append-nil numbers)
 
-pub reading_ends : {A : Type 0} (is : A → Type 0) (text : A → List ℕ) (read : List ℕ → Option A) (from number : ℕ) (k : Kept A)
-    (before between after : Option (List ℕ)) → IfKnown before between (IsReading is text from k number) →
-    IfKnown between after (IsNextLine is text read nexts.End) → IfSome before (λ bytes. AreKept is text from bytes k)
-reading_ends {A} is text read from number k before between after h next =
-    of_known before after (λ b r. AreKept is text from b k) (λ b. AreKept is text from b k)
-    (through before between after (IsReading is text from k number) (IsNextLine is text read nexts.End) (λ b r. AreKept is text from b k) h next
+pub reading_ends : {A : Type 0} (counts : A → Bool) (is : A → Type 0) (text : A → List ℕ) (read : List ℕ → Option A) (from number : ℕ) (k : Kept A)
+    (before between after : Option (List ℕ)) → IfKnown before between (IsReading counts is text from k number) →
+    IfKnown between after (IsNextLine is text read nexts.End) → IfSome before (λ bytes. AreKept counts is text from bytes k)
+reading_ends {A} counts is text read from number k before between after h next =
+    of_known before after (λ b r. AreKept counts is text from b k) (λ b. AreKept counts is text from b k)
+    (through before between after (IsReading counts is text from k number) (IsNextLine is text read nexts.End) (λ b r. AreKept counts is text from b k) h next
     (λ b m r p q. record {
       all = p.all;
       numbers = p.numbers;
@@ -143,20 +143,20 @@ bad_so is text b m all n h bad = record {
   is_bad = bad.is_bad;
 }
 
-pub reading_is_bad : {A : Type 0} (is : A → Type 0) (text : A → List ℕ) (read : List ℕ → Option A) (number : ℕ) (k : Kept A)
-    (before between after : Option (List ℕ)) → IfKnown before between (IsReading is text 1 k number) →
+pub reading_is_bad : {A : Type 0} (counts : A → Bool) (is : A → Type 0) (text : A → List ℕ) (read : List ℕ → Option A) (number : ℕ) (k : Kept A)
+    (before between after : Option (List ℕ)) → IfKnown before between (IsReading counts is text 1 k number) →
     IfKnown between after (IsNextLine is text read nexts.Bad) → IfSome before (λ b. IsBadAt is text b number)
-reading_is_bad {A} is text read number k before between after h next =
+reading_is_bad {A} counts is text read number k before between after h next =
     of_known before after (λ b r. IsBadAt is text b number) (λ b. IsBadAt is text b number)
-    (through before between after (IsReading is text 1 k number) (IsNextLine is text read nexts.Bad) (λ b r. IsBadAt is text b number) h next
+    (through before between after (IsReading counts is text 1 k number) (IsNextLine is text read nexts.Bad) (λ b r. IsBadAt is text b number) h next
     (λ b m r p q. subst (IsBadAt is text b) (sym p.is_number) (bad_so is text b m p.all p.n p.read q))) (λ b r x. x)
 
 pub behind_is_bad : (number : ℕ) (k : Kept RecordedEvent) (before between after : Option (List ℕ)) →
-    IfKnown before between (IsReading IsRecorded recorded_text 2 k number) → IfKnown between after (IsNextLine IsRecorded recorded_text recorded_in nexts.Bad) →
+    IfKnown before between (IsReading each_is_event IsRecorded recorded_text 2 k number) → IfKnown between after (IsNextLine IsRecorded recorded_text recorded_in nexts.Bad) →
     IfSome before (λ b. IsRecordedRefusal b (errors.BadLine number))
 behind_is_bad number k before between after h next =
     of_known before after (λ b r. IsRecordedRefusal b (errors.BadLine number)) (λ b. IsRecordedRefusal b (errors.BadLine number))
-    (through before between after (IsReading IsRecorded recorded_text 2 k number) (IsNextLine IsRecorded recorded_text recorded_in nexts.Bad)
+    (through before between after (IsReading each_is_event IsRecorded recorded_text 2 k number) (IsNextLine IsRecorded recorded_text recorded_in nexts.Bad)
     (λ b r. IsRecordedRefusal b (errors.BadLine number)) h next
     (λ b m r p q. (p.n + 1, (let e = p.is_number in omega (arith, e)), bad_so IsRecorded recorded_text b m p.all p.n p.read q))) (λ b r x. x)
 
@@ -332,7 +332,7 @@ lines_refused (Some b) (Some x) reads (Stopped code) h k = (k.0, subst AreSettle
 lines_refused known after reads (WrongJob n) h k = k
 
 pub history_kept : (known after : Option (List ℕ)) (k : Kept RecordedEvent) → IfKnown (left_of [] known) after (IsHeaderTaken true) →
-    IfSome after (λ x. AreKept IsRecorded recorded_text 2 x k) → IfSome known (λ b. AreEventsKept b (record {
+    IfSome after (λ x. AreKept each_is_event IsRecorded recorded_text 2 x k) → IfSome known (λ b. AreEventsKept b (record {
       says = files.Recorded k.says;
       numbers = k.numbers;
       is_whole = k.is_whole;

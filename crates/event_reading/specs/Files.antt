@@ -1,5 +1,5 @@
 -- What is read of files, and why one is refused.
-use Rattle.std.specs.Prelude.{◌≡◌, ◌+◌, ◌<◌, ℕ, Bool, true, List, [], ◌∷◌, ◌++◌, length, Option, drop, IfSome}
+use Rattle.std.specs.Prelude.{◌≡◌, ◌+◌, ◌<◌, ℕ, Bool, true, false, List, [], ◌∷◌, ◌++◌, length, Option, drop, IfSome}
 use Rattle.event_files.specs.Files.{IsBadAt, IsFile}
 use Rattle.event_files.specs.Lines.{IsLine, line_text}
 use Rattle.event_files.specs.Numbering.{line_numbers, numbers_from}
@@ -9,6 +9,8 @@ use Rattle.event_files.specs.declared.error.EventError.TheVariants as errors
 use Rattle.event_files.specs.declared.event_file.EventFile.{EventFile}
 use Rattle.event_files.specs.declared.event_file.EventFile.TheVariants as files
 use Rattle.event_files.specs.declared.line.Line.{Line}
+use Rattle.event_files.specs.declared.line.Line.TheVariants as lines
+use Rattle.event_files.specs.declared.recorded.RecordedEvent.{RecordedEvent}
 use Rattle.event_files.specs.declared.plan.PlanLine.{PlanLine}
 use Rattle.raysim_streams.specs.declared.CommandRefusal.{CommandRefusal}
 use Rattle.raysim_streams.specs.declared.CommandRefusal.TheVariants.{At, NoMemory, Stopped, BadLine, WrongJob, Failed}
@@ -20,16 +22,24 @@ use Rattle.event_reading.specs.Kept.{IsKeptOf, IsKeptSo}
 use Rattle.event_reading.specs.Rows.{IsLongSettle, settle_size}
 
 -- the bytes are lines that say these things, of which this is kept; the first line has that number
-pub record AreKept {A : Type 0} (is : A → Type 0) (text : A → List ℕ) (first : ℕ) (bytes : List ℕ) (k : Kept A) : Type 0 where
+pub record AreKept {A : Type 0} (is_event : A → Bool) (is : A → Type 0) (text : A → List ℕ) (first : ℕ) (bytes : List ℕ) (k : Kept A) : Type 0 where
   pub all : List A
   pub numbers : List ℕ
   pub is_file : IsFile is text bytes all
   pub numbered : numbers ≡ numbers_from first true bytes
-  pub are_kept : IsKeptOf all numbers k
+  pub are_kept : IsKeptOf is_event all numbers k
+
+-- a settle counts as no event, and each line of format 2 is one
+abbrev pub is_event_line : Line → Bool
+is_event_line (lines.Event e) = true
+is_event_line (lines.Settle ws) = false
+
+abbrev pub each_is_event : RecordedEvent → Bool
+each_is_event r = true
 
 -- the bytes are a file of format 1, of which this is kept
 abbrev pub AreLinesKept : List ℕ → Kept Line → Type 0
-AreLinesKept bytes k = AreKept IsLine line_text 1 bytes k
+AreLinesKept bytes k = AreKept is_event_line IsLine line_text 1 bytes k
 
 -- the bytes begin with lines that say these things, and behind them stands that
 pub record BeginsWith {A : Type 0} (is : A → Type 0) (text : A → List ℕ) (bytes : List ℕ) (says : List A) (rest : List ℕ) : Type 0 where
@@ -87,8 +97,8 @@ said_numbers (files.Recorded events) bytes = drop 1 (line_numbers bytes)
 
 -- of what the lines of these numbers say this is kept, of the same format
 abbrev pub IsKeptFile : EventFile → List ℕ → EventFile → List ℕ → Bool → ℕ → Type 0
-IsKeptFile (files.Lines all) numbers (files.Lines says) kept is_whole events = IsKeptSo is_whole all numbers says kept events
-IsKeptFile (files.Recorded all) numbers (files.Recorded says) kept is_whole events = IsKeptSo is_whole all numbers says kept events
+IsKeptFile (files.Lines all) numbers (files.Lines says) kept is_whole events = IsKeptSo is_event_line is_whole all numbers says kept events
+IsKeptFile (files.Recorded all) numbers (files.Recorded says) kept is_whole events = IsKeptSo each_is_event is_whole all numbers says kept events
 IsKeptFile (files.Lines all) numbers (files.Recorded says) kept is_whole events = ⊥
 IsKeptFile (files.Recorded all) numbers (files.Lines says) kept is_whole events = ⊥
 

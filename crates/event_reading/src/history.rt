@@ -3,7 +3,7 @@
 ghost use Rattle.std.specs.Prelude.{◌≡◌, IfOk, OnOk, IfErr, IfSome};
 ghost use Rattle.event_files.specs.Recorded.{IsRecorded, recorded_text};
 ghost use Rattle.event_reading.specs.Known.{left_of};
-ghost use Rattle.event_reading.specs.Files.{AreKept, ExplainsBehind};
+ghost use Rattle.event_reading.specs.Files.{AreKept, ExplainsBehind, each_is_event};
 
 use crate::kept::Kept;
 use crate::next_line::{Next, next_recorded};
@@ -18,7 +18,7 @@ pub fn events_left<R: Source>(
     reader: &mut R,
     ahead: &mut Vec<u8>,
 ) -> Result<Kept<RecordedEvent>, CommandRefusal>
-    ensures read { IfOk result (λ kept. IfSome (left_of ahead.old.items (R.left reader.old)) (λ bytes. AreKept IsRecorded recorded_text 2 bytes kept)) }
+    ensures read { IfOk result (λ kept. IfSome (left_of ahead.old.items (R.left reader.old)) (λ bytes. AreKept each_is_event IsRecorded recorded_text 2 bytes kept)) }
     ensures refused { IfErr result (ExplainsBehind (left_of ahead.old.items (R.left reader.old)) (R.failures reader.old, R.failures reader.new)) }
     ensures unfailed { OnOk result (R.failures reader.new ≡ R.failures reader.old) }
 {

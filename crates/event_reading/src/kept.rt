@@ -1,6 +1,6 @@
 // What is kept of the lines of an event file.
 
-ghost use Rattle.std.specs.Prelude.{ℕ, List, [], ◌∷◌, ◌++◌, OnOk};
+ghost use Rattle.std.specs.Prelude.{◌≡◌, ℕ, Bool, List, [], ◌∷◌, ◌++◌, OnOk};
 ghost use Rattle.event_reading.specs.Kept.{IsKeptOf};
 
 use event_files::MOST_EVENTS;
@@ -26,7 +26,7 @@ pub struct Kept<T> {
 impl<T: Drop> Kept<T> {
     /// Nothing yet.
     pub fn new(alloc: Global) -> Kept<T>
-        ensures { IsKeptOf [] [] result }
+        ensures { (counts : T → Bool) → IsKeptOf counts [] [] result }
     {
         Kept {
             says: Seq::new(alloc),
@@ -36,10 +36,10 @@ impl<T: Drop> Kept<T> {
         }
     }
 
-    /// Keeps what the line of that number says, unless there are events enough.
+    /// Keeps what the line of that number says, which is an event or none, unless there are events enough.
     pub fn keep(&mut self, said: T, number: usize, is_event: bool) -> Result<(), AllocError>
-        ensures { OnOk result ((all : List T) (numbers : List ℕ) → IsKeptOf all numbers self.old →
-            IsKeptOf (all ++ said ∷ []) (numbers ++ number ∷ []) self.new) }
+        ensures { OnOk result ((counts : T → Bool) (all : List T) (numbers : List ℕ) → counts said ≡ is_event → IsKeptOf counts all numbers self.old →
+            IsKeptOf counts (all ++ said ∷ []) (numbers ++ number ∷ []) self.new) }
     {
         if self.events > MOST_EVENTS {
             self.is_whole = false;

@@ -3,7 +3,7 @@
 ghost use Rattle.std.specs.Prelude.{◌≡◌, IfOk, OnOk, IfErr, IfSome};
 ghost use Rattle.event_files.specs.Lines.{IsLine, line_text};
 ghost use Rattle.event_reading.specs.Known.{IfKnown, left_of};
-ghost use Rattle.event_reading.specs.Files.{AreLinesKept, AreSettlesLong, ExplainsRows};
+ghost use Rattle.event_reading.specs.Files.{AreLinesKept, AreSettlesLong, ExplainsRows, is_event_line};
 
 use crate::kept::{Kept, MOST_SETTLED};
 use crate::next_line::{Next, next_line};
@@ -12,7 +12,9 @@ use raysim_streams::{CommandRefusal, Source};
 use sequence::refused_growth;
 use std::alloc::Global;
 
-fn is_event(line: &Line) -> bool {
+fn is_event(line: &Line) -> bool
+    ensures { result ≡ is_event_line line.now }
+{
     matches!(line, Line::Event(_))
 }
 

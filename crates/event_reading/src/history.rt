@@ -18,7 +18,8 @@ pub fn events_left<R: Source>(
     reader: &mut R,
     ahead: &mut Vec<u8>,
 ) -> Result<Kept<RecordedEvent>, CommandRefusal>
-    ensures read { IfOk result (λ kept. IfSome (left_of ahead.old.items (R.left reader.old)) (λ bytes. AreKept each_is_event IsRecorded recorded_text 2 bytes kept)) }
+    ensures read { IfOk result (λ kept. IfSome (left_of ahead.old.items (R.left reader.old))
+        (λ bytes. AreKept each_is_event IsRecorded recorded_text 2 bytes kept)) }
     ensures refused { IfErr result (ExplainsBehind (left_of ahead.old.items (R.left reader.old)) (R.failures reader.old, R.failures reader.new)) }
     ensures unfailed { OnOk result (R.failures reader.new ≡ R.failures reader.old) }
 {

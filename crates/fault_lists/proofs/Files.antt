@@ -1,5 +1,5 @@
 -- The text of a list is an event file: a comment, the events, and a settle.
-use Rattle.std.proofs.Common.{◌≡◌, ℕ, zero, suc, ◌<◌, ◌^◌, ◌==◌, Bool, true, false, List, [], ◌∷◌, ◌++◌, map, take, drop, Option, Some, None, refl, sym, ap, ◌∙◌, subst, arith}
+use Rattle.std.proofs.Common.{◌≡◌, ℕ, zero, suc, ◌<◌, ◌^◌, ◌==◌, Bool, true, false, List, [], ◌∷◌, ◌++◌, take, drop, Option, Some, None, refl, sym, ap, ◌∙◌, arith}
 use Rattle.std.specs.Prelude.{IfSome, codes, if◌then◌else◌}
 use Rattle.std.specs.Fmt.{decimal}
 use Rattle.std.proofs.lemmas.List.{append_assoc}
@@ -18,7 +18,6 @@ use Rattle.meaning.specs.Values.{Id}
 use Rattle.report.specs.ValueTexts.{id_text}
 use Rattle.report_text.specs.of_report_lines.Texts.{fault_text, kind_name}
 use Rattle.faulted_history.specs.History.{event_list, fault_events, notice_in}
-use Rattle.faulted_history.specs.declared.fault_list.FaultList.{FaultList}
 use Rattle.fault_lists.specs.Lists.{event_lines}
 use Rattle.fault_lists.specs.Tables.{AreTold, EndFits, end_text, fault_list_text, list_file, list_text, notice_text, place_text}
 use Rattle.fault_lists.specs.declared.ending.RunEnd.{RunEnd}

@@ -1,5 +1,5 @@
 -- What the texts say of what was kept.
-use Rattle.std.proofs.Common.{◌≡◌, ℕ, Bool, true, false, List, [], ◌∷◌, ◌++◌, length, drop, refl, sym, ap, ◌∙◌, subst, arith}
+use Rattle.std.proofs.Common.{◌≡◌, ℕ, Bool, true, false, List, ◌∷◌, ◌++◌, length, drop, refl, sym, ap, ◌∙◌, subst, arith}
 use Rattle.event_files.specs.Files.{IsFile}
 use Rattle.event_files.specs.Lines.{IsLine, line_text}
 use Rattle.event_files.specs.Numbering.{AreNumbersOf, line_numbers}

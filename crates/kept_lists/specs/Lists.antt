@@ -1,5 +1,5 @@
 -- What a text that is made of an event file or a plan says of it.
-use Rattle.std.specs.Prelude.{◌≡◌, ℕ, List}
+use Rattle.std.specs.Prelude.{ℕ, List}
 use Rattle.event_files.specs.Files.{IsFile}
 use Rattle.event_files.specs.Plans.{IsPlanLine, plan_line_text}
 use Rattle.event_files.specs.declared.line.Line.{Line}

@@ -1,6 +1,5 @@
 -- Texts of what was kept of event files and plans: each line stands in the line of its number, and empty lines between them.
 use Rattle.std.specs.Prelude.{◌≡◌, ℕ, ◌-◌, List, [], ◌∷◌, ◌++◌, replicate}
-use Rattle.std.specs.List.{flat_map}
 use Rattle.event_files.specs.Files.{IsFile}
 use Rattle.event_files.specs.Lines.{IsLine, line_text}
 use Rattle.event_files.specs.Numbering.{line_numbers}

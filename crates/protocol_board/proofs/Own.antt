@@ -26,14 +26,14 @@ none_some x e = cc
 
 -- ---- the log grows
 
-abbrev Longer : RunState → RunState → Type 0
+abbrev pub Longer : RunState → RunState → Type 0
 Longer before after = (more : List Entry) × (after.log ≡ before.log ++ more)
 
 longer_by : (before after : RunState) (e : Event) (seat : ℕ) (done : Option Done) (told : Reply) → Follows before e seat done after told → Longer before after
 longer_by before after e seat done told (inl out) = ([], out.same ∙ sym (append-nil before.log))
 longer_by before after e seat done told (inr (handed, is, applied)) = (logged e seat (answer before.whole e handed), applied.log)
 
-longer : (before after : RunState) (e : Event) (seat : ℕ) (done : Option Done) (told : Reply) → Answers before e seat done after told → Longer before after
+pub longer : (before after : RunState) (e : Event) (seat : ℕ) (done : Option Done) (told : Reply) → Answers before e seat done after told → Longer before after
 longer before after e seat done told h = go before.is_halted refl
   where
     go : (b : Bool) → before.is_halted ≡ b → Longer before after

@@ -107,8 +107,8 @@ impl<S: ScriptName> Core<S> {
         next_from(&self.state.whole, but, self.cursor)
     }
 
-    /// One event, with the number of the seat from which it comes: any, though an event file has those from 0 to 8. With a commit comes what was done on its job, if
-    /// anything was.
+    /// One event, with the number of the seat from which it comes: any, though an event file has those from 0 to 8. With a commit comes what was
+    /// done on its job, if anything was.
     ///
     /// A claim answers the job that is given out, any other event `Ok`. Refused are the events of docs/protocol.md, which change nothing
     /// but the log, in which the event and its refusal stand; `NoMemory`, which leaves the log as it was, lets go of workers, nodes, messages

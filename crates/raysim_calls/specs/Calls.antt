@@ -17,7 +17,6 @@ use Rattle.raysim_options.specs.declared.FaultsOptions.{FaultsOptions}
 use Rattle.raysim_options.specs.declared.LogOptions.{LogOptions}
 use Rattle.raysim_options.specs.declared.MigrateOptions.{MigrateOptions}
 use Rattle.raysim_options.specs.declared.RunOptions.{RunOptions}
-use Rattle.raysim_options.specs.declared.ScriptOptions.{ScriptOptions}
 use Rattle.raysim_options.specs.declared.SimOptions.{SimOptions}
 use Rattle.raysim_options.specs.declared.StateOptions.{StateOptions}
 use Rattle.raysim_options.specs.declared.WhyOptions.{WhyOptions}

@@ -1,7 +1,6 @@
 // What a command is called with.
 
 ghost use Rattle.std.specs.Prelude.{◌≡◌};
-ghost use Rattle.std.specs.Option.{option_map};
 ghost use Rattle.raysim_calls.specs.Calls.{is_report_alone, lineage_of, no_views, timeline_of};
 
 use engine_text::Engine;

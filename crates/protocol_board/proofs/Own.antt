@@ -40,17 +40,25 @@ longer before after e seat done told h = go before.is_halted refl
     go true is = ([], ap (λ (x : RunState). x.log) (h.halted is).0 ∙ sym (append-nil before.log))
     go false is = longer_by before after e seat done told (h.follows is)
 
+-- a job stays a run's own as the log grows
+pub job_stays_own : (log more : List Entry) (j : JobParts) → IsOfLog log j → IsOfLog (log ++ more) j
+job_stays_own log more j own = begins_longer j.answers j.attempt log more own
+
+-- and so do the attempts whose frames are kept
+pub frames_stay_own : (log more : List Entry) (kept : List (Option KnownData)) → FramesAreOwn log kept → FramesAreOwn (log ++ more) kept
+frames_stay_own log more kept own place k at = begins_longer k.answers k.attempt log more (own place k at)
+
 jobs_behind : (before after : RunState) {e : Event} {seat : ℕ} {done : Option Done} {told : Reply} (jobs : List (Option JobParts)) → Answers before e seat done after told →
     JobsAreOwn before.log jobs → JobsAreOwn after.log jobs
 jobs_behind before after {e} {seat} {done} {told} jobs h own place j at =
     let l = longer before after e seat done told h in
-    subst (λ log. IsOfLog log j) (sym l.1) (begins_longer j.answers j.attempt before.log l.0 (own place j at))
+    subst (λ log. IsOfLog log j) (sym l.1) (job_stays_own before.log l.0 j (own place j at))
 
 pub frames_behind : (before after : RunState) {e : Event} {seat : ℕ} {done : Option Done} {told : Reply} (kept : List (Option KnownData)) → Answers before e seat done after told →
     FramesAreOwn before.log kept → FramesAreOwn after.log kept
-frames_behind before after {e} {seat} {done} {told} kept h own place k at =
+frames_behind before after {e} {seat} {done} {told} kept h own =
     let l = longer before after e seat done told h in
-    subst (λ log. IsOwnAttempt log k) (sym l.1) (begins_longer k.answers k.attempt before.log l.0 (own place k at))
+    subst (λ log. FramesAreOwn log kept) (sym l.1) (frames_stay_own before.log l.0 kept own)
 
 -- ---- a job and what is known of its attempt
 

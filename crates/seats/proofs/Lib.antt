@@ -9,6 +9,7 @@ mod Limited
 mod Outside
 mod Owed
 mod Planned
+mod Seen
 pub mod Seated
 mod Sizes
 mod Standing

@@ -2,7 +2,7 @@
 -- were accepted; else the least ready worker claims; else, where a job is out, none; else the plan's next line; else the run is at its end.
 use Rattle.std.specs.Prelude.{◌≡◌, ◌⊎◌, ◌||◌, ℕ, ◌+◌, ◌==◌, Bool, is_some, not, nat_lt, if◌then◌else◌, List, [], ◌∷◌, ◌++◌, length, map, slice_get, Option, Some, None}
 use Rattle.std.specs.List.{filter}
-use Rattle.event_log.specs.Entries.{Event, Claim, Commit, Deliver}
+use Rattle.event_log.specs.Entries.{Entry, Event, Claim, Commit, Deliver}
 use Rattle.event_log.specs.Books.{Totals, totals_of}
 use Rattle.event_log.specs.Laws.{nothing}
 use Rattle.log_entries.specs.declared.refusal.Refusal.{Refusal}
@@ -10,7 +10,7 @@ use Rattle.log_entries.specs.declared.refusal.Refusal.TheVariants as refusals
 use Rattle.event_files.specs.declared.plan.PlanLine.{PlanLine}
 use Rattle.protocol.specs.Settling.{next}
 use Rattle.segment.specs.Jobs.{JobParts}
-use Rattle.run_paths.specs.of_protocol_board.Cores.{RunState, Answers, Reply, GivesJob, Accepts, Refuses}
+use Rattle.run_paths.specs.of_protocol_board.Cores.{RunState, Answers, IsOfLog, Reply, GivesJob, Accepts, Refuses}
 use Rattle.seats.specs.Counted.{one_event, refused_totals}
 use Rattle.seats.specs.declared.outs.JobOut.{JobOut}
 
@@ -90,6 +90,14 @@ abbrev pub told_by : Reply → Told
 told_by (GivesJob job) = GaveJob job
 told_by Accepts = Did
 told_by (Refuses refusal) = WasRefused refusal
+
+-- what the attempt of the job that it gives out was answered begins what the log has of answers to it
+abbrev pub TurnGivesOwn : List Entry → Told → Type 0
+TurnGivesOwn log (GaveJob job) = IsOfLog log job
+TurnGivesOwn log Did = Unit {0}
+TurnGivesOwn log (WasRefused refusal) = Unit {0}
+TurnGivesOwn log MustWait = Unit {0}
+TurnGivesOwn log IsOver = Unit {0}
 
 -- what it counts in a book
 abbrev pub turn_counted : Told → Totals

@@ -1,4 +1,5 @@
 -- What the code's turns stand for.
+use Rattle.segment.specs.Jobs.{JobParts}
 use Rattle.seats.specs.Turns.{Choice, Does, Plans, Waits, Ends, Told, GaveJob, Did, WasRefused, MustWait, IsOver}
 use Rattle.seats.specs.declared.choice.Choice as coded
 use Rattle.seats.specs.declared.choice.Choice.TheVariants as choices
@@ -11,7 +12,7 @@ choice_of (choices.Plans e) = Plans e
 choice_of choices.Waits = Waits
 choice_of choices.Ends = Ends
 
-abbrev pub told_of : {X : Type 0} → turned.Turn X → Told
+abbrev pub told_of : turned.Turn JobParts → Told
 told_of (turns.Job job) = GaveJob job
 told_of turns.Did = Did
 told_of (turns.Refused refusal) = WasRefused refusal

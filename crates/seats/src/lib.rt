@@ -7,6 +7,8 @@ mod end;
 mod gate;
 mod outs;
 mod run_name;
+mod seen_job;
+mod seen_log;
 mod shared;
 mod tally;
 mod threads;
@@ -20,6 +22,7 @@ pub use outs::JobOut;
 pub use run_name::RunName;
 // (passed on to those above)
 pub use run_paths::{Board, Replay, ReplayStop, drive};
+pub use seen_job::{SeenDone, SeenFrames, SeenJob};
 pub use shared::Shared;
 pub use threads::run_on_threads;
 pub use turn::Turn;

@@ -5,12 +5,13 @@ ghost use Rattle.event_files.specs.declared.plan.PlanLine.{PlanLine};
 ghost use Rattle.run_paths.specs.of_protocol_board.Cores.{Size};
 
 use seat_books::Watching;
+use shared_log::LogName;
 use std::marker::Brand;
 
-/// A type that stands for one run on threads in contracts: which of its seats is watched, the plan beside it, the cluster on which it begins, and
-/// whether it is open: calls may then apply events from outside that the plan doesn't have. Of a run under a lock nothing is known but what its type
+/// A type that stands for one run on threads in contracts: which of its seats is watched, the log that they share, the plan beside it, the cluster on
+/// which it begins, and whether it is open: calls may then apply events from outside that the plan doesn't have. Of a run under a lock nothing is known but what its type
 /// says.
-pub trait RunName: Watching {
+pub trait RunName: Watching + LogName {
     ghost plan: { List PlanLine };
 
     ghost size: { Size };

@@ -1,12 +1,12 @@
 // A run under a lock, with the books of four ledgers.
 
-ghost use Rattle.std.specs.Prelude.{◌≡◌, ◌≤◌, ◌<◌, IfOk, IfErr, IsOk, Some, length};
+ghost use Rattle.std.specs.Prelude.{◌≡◌, ◌≤◌, ◌<◌, [], true, IfOk, IfErr, IsOk, Some, length};
 ghost use Rattle.books.specs.SeatTotals.{seat_totals};
 ghost use Rattle.event_log.specs.Books.{totals_of};
 ghost use Rattle.event_log.specs.Entries.{Claim, Commit};
 ghost use Rattle.event_log.specs.Laws.{nothing};
 ghost use Rattle.log_entries.specs.declared.refusal.Refusal.TheVariants.{NoMemory};
-ghost use Rattle.run_paths.specs.of_protocol_board.Cores.{reply_of};
+ghost use Rattle.run_paths.specs.of_protocol_board.Cores.{IsOwn, reply_of};
 ghost use Rattle.seat_books.specs.Holdings.{SameParts};
 ghost use Rattle.seat_books.specs.Seats.{AreParts, book_of, new_seats, sums, with_more};
 ghost use Rattle.seats.specs.Counted.{IsFresh, counted};
@@ -19,6 +19,8 @@ ghost use Rattle.seats.specs.Views.{told_of};
 use crate::end::Ended;
 use crate::gate::Gate;
 use crate::run_name::RunName;
+use crate::seen_job::{SeenDone, SeenJob};
+use crate::seen_log::SeenLog;
 use crate::tally::{tally_of, turn_tally};
 use crate::turn::Turn;
 use crate::turning::Turning;
@@ -28,6 +30,7 @@ use log_entries::Event;
 use run_paths::{Board, Reply};
 use seat_books::{Blanks, Ledgers, Seat};
 use segment::{Done, ScriptName};
+use shared_log::{LogPrefix, OpenedLog};
 use std::alloc::{AllocError, Global};
 use std::marker::Model;
 use std::sync::ledger::Ledger;
@@ -73,7 +76,7 @@ impl<
     ghost invariant = { λ s. (1 ≤ s.seats) × (s.seats ≡ P.seats) × AreParts s.seats E.parts };
 }
 
-/// The run, and the ledgers of its seats.
+/// The run, the ledgers of its seats, and the log that these share.
 #[derive(Drop)]
 struct Locked<
     S: ScriptName,
@@ -89,9 +92,11 @@ struct Locked<
 > {
     turning: Turning<S, P>,
     ledgers: Ledgers<P, E, G, C, J, V, H, D, M>,
+    log: SeenLog<P>,
     ghost all_add_up: { totals_of turning.run.log ≡ ledgers.all },
     ghost watched_add_up: { seat_totals P.watched turning.run.log ≡ ledgers.watched },
     ghost seated: { AreFrom P.seats turning.run.log },
+    ghost whole: { log.is_whole ≡ true → log.seen ≡ turning.run.log },
 }
 
 impl<
@@ -106,32 +111,66 @@ impl<
     D: Ledger,
     M: Ledger,
 > Locked<S, P, E, G, C, J, V, H, D, M> {
+    /// One event from the seat, counted in its book. With `is_own` what was done is done on a job of this run.
     fn apply(
         &mut self,
         alloc: Global,
         seat: &mut Seat<P, E, G, C, J, V, H, D, M>,
         event: Event,
         done: Option<Done<S>>,
+        is_own: bool,
     ) -> Reply<S>
-        requires { MayApply P.is_open event }
+        requires may { MayApply P.is_open event }
+        requires own { is_own ≡ true → IsOwn self.old.turning.run.log done }
         ensures { seat.new ≡ with_more (counted event (reply_of result)) seat.old }
     {
-        let Locked { turning, ledgers } = self;
-        let told = turning.apply(alloc, event, seat.number(), done);
+        let Locked {
+            turning,
+            ledgers,
+            log,
+        } = self;
+        let told = turning.apply_as(alloc, event, seat.number(), done, is_own);
+        log.follow(turning.log());
         let more = tally_of(&event, &told);
         ledgers.count(seat, more);
         told
     }
 
+    /// Commits what was done on a job, whose answers aren't compared where it is known to be the run's own.
+    fn commit(
+        &mut self,
+        alloc: Global,
+        seat: &mut Seat<P, E, G, C, J, V, H, D, M>,
+        done: SeenDone<S, P>,
+    ) -> Reply<S>
+        ensures { seat.new ≡ with_more (counted (Commit done.done.job.number) (reply_of result)) seat.old }
+    {
+        let SeenDone { done, seen, is_own } = done;
+        let event = Event::Commit(done.job().number());
+        if is_own && self.log.goes_on_from(&seen) {
+            return self.apply(alloc, seat, event, Some(done), true);
+        }
+        self.apply(alloc, seat, event, Some(done), false)
+    }
+
     /// Takes the seat's turn, and counts in its book what came of it.
-    fn turn(&mut self, alloc: Global, seat: &mut Seat<P, E, G, C, J, V, H, D, M>) -> Turn<S>
+    fn turn(
+        &mut self,
+        alloc: Global,
+        seat: &mut Seat<P, E, G, C, J, V, H, D, M>,
+    ) -> Turn<SeenJob<S, P>>
         ensures { seat.new ≡ with_more (turn_counted (told_of result)) seat.old }
     {
-        let Locked { turning, ledgers } = self;
+        let Locked {
+            turning,
+            ledgers,
+            log,
+        } = self;
         let told = turning.turn(alloc, seat.number());
+        log.follow(turning.log());
         let more = turn_tally(&told);
         ledgers.count(seat, more);
-        told
+        log.give(told)
     }
 
     /// Gives the run up for want of memory, unless it was given up before.
@@ -151,7 +190,11 @@ impl<
         ensures watched { book_of P.watched seats.items ≡ Some (seat_totals P.watched result.run.log) }
         ensures seated { AreFrom P.seats result.run.log }
     {
-        let Locked { turning, ledgers } = self;
+        let Locked {
+            turning,
+            ledgers,
+            log: _,
+        } = self;
         ledgers.close(seats);
         turning
     }
@@ -172,16 +215,20 @@ fn begin<
 >(
     alloc: Global,
     ledgers: Ledgers<P, E, G, C, J, V, H, D, M>,
+    opened: OpenedLog,
     board: Board<S>,
     plan: RunPlan,
 ) -> Locked<S, P, E, G, C, J, V, H, D, M>
+    requires log { opened.seen.book ≡ P.book }
     requires fresh { IsFresh board }
     requires named { (plan.lines ≡ P.plan) × (size_of board ≡ P.size) }
     requires empty { (ledgers.all ≡ nothing) × (ledgers.watched ≡ nothing) }
 {
+    let (log, seen) = opened.named::<P>();
     Locked {
         turning: Turning::new(alloc, board, plan),
         ledgers,
+        log: SeenLog::new(log, seen),
     }
 }
 
@@ -203,6 +250,7 @@ impl<
         alloc: Global,
         blanks: Blanks,
         further: Blanks,
+        opened: OpenedLog,
         board: Board<S>,
         plan: RunPlan,
         n: u8,
@@ -211,6 +259,7 @@ impl<
         requires few { n ≤ 8 }
         requires seats { n ≡ P.seats }
         requires watched { (watched ≡ P.watched) × (1 ≤ watched) × (watched ≤ n) }
+        requires log { opened.seen.book ≡ P.book }
         requires fresh { IsFresh board }
         requires named { (plan.lines ≡ P.plan) × (size_of board ≡ P.size) }
         requires parts { AreParts n E.parts × SameParts E.parts G.parts C.parts J.parts }
@@ -226,15 +275,15 @@ impl<
         ensures shared { IfOk result (λ r. r.0 ≡ n) }
         ensures seats { IfOk result (λ r. r.1.items ≡ new_seats 1 n) }
     {
-        let opened = Ledgers::<P, E, G, C, J, V, H, D, M>::open(alloc, blanks, further, n, watched);
-        let (ledgers, seats) = match opened {
-            Ok(opened) => opened,
+        let made = Ledgers::<P, E, G, C, J, V, H, D, M>::open(alloc, blanks, further, n, watched);
+        let (ledgers, seats) = match made {
+            Ok(made) => made,
             Err(error) => {
                 drop(board);
                 return Err(error);
             }
         };
-        let locked = begin::<S, P, E, G, C, J, V, H, D, M>(alloc, ledgers, board, plan);
+        let locked = begin::<S, P, E, G, C, J, V, H, D, M>(alloc, ledgers, opened, board, plan);
         let shared = Shared {
             locked: Mutex::new(locked),
             seats: usize::from(n),
@@ -298,7 +347,7 @@ impl<
         requires { MayApply P.is_open event }
         ensures { seat.new ≡ with_more (counted event (reply_of result)) seat.old }
     {
-        self.locked.lock(rt).apply(alloc, seat, event, None)
+        self.locked.lock(rt).apply(alloc, seat, event, None, false)
     }
 
     /// One turn of the seat, under the lock: see `Turning::turn`. An event that it applies is counted in the seat's book.
@@ -307,10 +356,15 @@ impl<
         rt: &R,
         alloc: Global,
         seat: &mut Seat<P, E, G, C, J, V, H, D, M>,
-    ) -> Turn<S>
+    ) -> Turn<SeenJob<S, P>>
         ensures { seat.new ≡ with_more (turn_counted (told_of result)) seat.old }
     {
         self.locked.lock(rt).turn(alloc, seat)
+    }
+
+    /// How much of the log all seats may have seen, for the frames that one keeps.
+    pub fn seen<R: Wait>(&self, rt: &R) -> LogPrefix<P> {
+        self.locked.lock(rt).log.seen.again()
     }
 
     /// Gives the run up for want of memory, unless it was given up before: `Turning::give_up` under the lock, so that each later turn is at its end.
@@ -336,7 +390,21 @@ impl<
         self.step(rt, alloc, seat, Event::Claim(worker))
     }
 
-    /// Commits what was done on a job, and counts it in the seat's book. The reply is the board's: `Ok`, or why the commit is refused.
+    /// Commits what was done on a job that the run gave out, and counts it in the seat's book. The reply is the board's: `Ok`, or why the commit is
+    /// refused. The cost doesn't grow with what the job was answered.
+    pub fn commit_own<R: Wait>(
+        &self,
+        rt: &R,
+        alloc: Global,
+        seat: &mut Seat<P, E, G, C, J, V, H, D, M>,
+        done: SeenDone<S, P>,
+    ) -> Reply<S>
+        ensures { seat.new ≡ with_more (counted (Commit done.done.job.number) (reply_of result)) seat.old }
+    {
+        self.locked.lock(rt).commit(alloc, seat, done)
+    }
+
+    /// Commits what was done on any job, and counts it in the seat's book. The reply is the board's: `Ok`, or why the commit is refused.
     pub fn commit<R: Wait>(
         &self,
         rt: &R,
@@ -347,6 +415,8 @@ impl<
         ensures { seat.new ≡ with_more (counted (Commit done.job.number) (reply_of result)) seat.old }
     {
         let event = Event::Commit(done.job().number());
-        self.locked.lock(rt).apply(alloc, seat, event, Some(done))
+        self.locked
+            .lock(rt)
+            .apply(alloc, seat, event, Some(done), false)
     }
 }

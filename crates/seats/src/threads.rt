@@ -16,6 +16,7 @@ use event_files::RunPlan;
 use run_paths::Board;
 use seat_books::{Blanks, Seat};
 use segment::{Compiled, ScriptName};
+use shared_log::OpenedLog;
 use std::alloc::{AllocError, Global};
 use std::marker::Brand;
 use std::rt::Clock;
@@ -76,6 +77,7 @@ fn run_shared<
     alloc: Global,
     blanks: Blanks,
     further: Blanks,
+    opened: OpenedLog,
     board: Board<S>,
     plan: RunPlan,
     n: u8,
@@ -83,6 +85,7 @@ fn run_shared<
     gate: &K,
 ) -> Result<Ended<S>, AllocError>
     requires some { (1 ≤ n) × (n ≤ 8) }
+    requires log { opened.seen.book ≡ P.book }
     requires fresh { IsFresh board }
     requires named { (plan.lines ≡ P.plan) × (size_of board ≡ P.size) }
     requires script { script_of script.now ≡ S.script }
@@ -101,7 +104,7 @@ fn run_shared<
     ensures { IfOk result (IsEndAt S.script P.is_open n P.plan P.size) }
 {
     let (mut shared, mut seats) = Shared::<S, P, E, G, C, J, V, H, D, M>::new(
-        alloc, blanks, further, board, plan, n, 1,
+        alloc, blanks, further, opened, board, plan, n, 1,
     )?;
     for _ in rt.forever() {
         let back = match sit(rt, alloc, &shared, seats, script, gate) {
@@ -146,6 +149,15 @@ pub fn run_on_threads<
     let blanks = Blanks::new(2 * u64::from(n) - 1);
     let further = Blanks::new(1);
     run_shared::<S, Brand, Brand, Brand, Brand, Brand, Brand, Brand, Brand, Brand, K, R>(
-        rt, alloc, blanks, further, board, plan, n, script, gate,
+        rt,
+        alloc,
+        blanks,
+        further,
+        OpenedLog::new(),
+        board,
+        plan,
+        n,
+        script,
+        gate,
     )
 }

@@ -1,13 +1,12 @@
 // What a turn comes to.
 
 use log_entries::Refusal;
-use segment::{Job, ScriptName};
 
-/// What a turn comes to.
+/// What a turn comes to, where `J` is a job.
 #[derive(Drop)]
-pub enum Turn<S: ScriptName> {
+pub enum Turn<J> {
     /// A claim was applied: its job is to be run and committed.
-    Job(Job<S>),
+    Job(J),
     /// Another event was applied.
     Did,
     /// The turn's event was refused.

@@ -4,7 +4,7 @@ ghost use Rattle.std.specs.Prelude.{◌≡◌, ◌+◌, ◌≤◌, ℕ, [], None
 ghost use Rattle.event_log.specs.Books.{totals_of};
 ghost use Rattle.event_log.specs.Laws.{nothing, plus};
 ghost use Rattle.log_entries.specs.declared.refusal.Refusal.TheVariants.{NoMemory};
-ghost use Rattle.run_paths.specs.of_protocol_board.Cores.{Answers, reply_of};
+ghost use Rattle.run_paths.specs.of_protocol_board.Cores.{Answers, GivesOwn, IsOwn, reply_of};
 ghost use Rattle.run_paths.specs.of_protocol_board.Cores.{IsSoundLog};
 ghost use Rattle.books.specs.SeatTotals.{seat_totals};
 ghost use Rattle.run_paths.specs.Paths.{IsTrueDone};
@@ -12,7 +12,7 @@ ghost use Rattle.seats.specs.Counted.{AddsFrom, IsFresh, counted};
 ghost use Rattle.seats.specs.Ends.{EndsFor, HasEnded, IsOverBeside, log_at, size_of};
 ghost use Rattle.seats.specs.Outside.{MayApply, Passes};
 ghost use Rattle.seats.specs.Seated.{AreFrom, StaysFrom};
-ghost use Rattle.seats.specs.Turns.{Follows, Plans, Takes, Turned, choice, due, is_at_end, or_first, past_line, turn_counted};
+ghost use Rattle.seats.specs.Turns.{Follows, Plans, Takes, TurnGivesOwn, Turned, choice, due, is_at_end, or_first, past_line, turn_counted};
 ghost use Rattle.seats.specs.Views.{choice_of, told_of};
 
 use crate::choice::{Choice, behind_plan, due};
@@ -24,7 +24,7 @@ use event_files::{PlanLine, RunPlan};
 use log_entries::{Entry, Event, Refusal};
 use run_paths::law::{none_came, paths_go_on};
 use run_paths::{Board, Reply};
-use segment::{Done, ScriptName};
+use segment::{Done, Job, ScriptName};
 use sequence::Seq;
 use std::alloc::{AllocError, Global};
 use std::marker::{Model, PhantomData};
@@ -101,6 +101,25 @@ fn attest<S: ScriptName>(done: &Option<Done<S>>)
     }
 }
 
+/// One event: see `Board::apply`. With `is_own` what was done is done on a job of this run: see `Board::apply_own`.
+fn step<S: ScriptName>(
+    alloc: Global,
+    board: &mut Board<S>,
+    event: Event,
+    seat: u8,
+    done: Option<Done<S>>,
+    is_own: bool,
+) -> Reply<S>
+    requires { is_own ≡ true → IsOwn board.old.log done }
+    ensures answers { Answers board.old event seat done board.new (reply_of result) }
+    ensures own { GivesOwn board.new.log (reply_of result) }
+{
+    if is_own {
+        return board.apply_own(alloc, event, seat, done);
+    }
+    board.apply(alloc, event, seat, done)
+}
+
 impl<S: ScriptName, P: RunName> Turning<S, P> {
     /// A run that begins, beside the plan.
     pub fn new(alloc: Global, board: Board<S>, plan: RunPlan) -> Turning<S, P>
@@ -125,16 +144,19 @@ impl<S: ScriptName, P: RunName> Turning<S, P> {
         }
     }
 
-    /// One event, behind which so many of the plan's lines are taken.
+    /// One event, behind which so many of the plan's lines are taken. With `is_own` what was done is done on a job of this run.
     fn apply_past(
         &mut self,
         alloc: Global,
         event: Event,
         seat: u8,
         done: Option<Done<S>>,
+        is_own: bool,
         taken: usize,
     ) -> Reply<S>
-        requires { Passes P.is_open self.old event taken }
+        requires passes { Passes P.is_open self.old event taken }
+        requires own { is_own ≡ true → IsOwn self.old.run.log done }
+        ensures own { GivesOwn self.new.run.log (reply_of result) }
         ensures answers { Answers self.old.run event seat done self.new.run (reply_of result) }
         ensures counted { totals_of self.new.run.log ≡ plus (totals_of self.old.run.log) (counted event (reply_of result)) }
         ensures watched { AddsFrom P.watched seat (counted event (reply_of result)) self.old.run.log self.new.run.log }
@@ -143,7 +165,7 @@ impl<S: ScriptName, P: RunName> Turning<S, P> {
     {
         paths_go_on();
         attest(&done);
-        let told = self.board.apply(alloc, event, seat, done);
+        let told = step(alloc, &mut self.board, event, seat, done, is_own);
         let most = entries_of(&self.board);
         self.commits = commits_behind(self.commits, &event, &told, most);
         keep_or_give_up(&mut self.out, &mut self.given_up, &event, &told);
@@ -161,6 +183,28 @@ impl<S: ScriptName, P: RunName> Turning<S, P> {
         done: Option<Done<S>>,
     ) -> Reply<S>
         requires { MayApply P.is_open event }
+        ensures own { GivesOwn self.new.run.log (reply_of result) }
+        ensures answers { Answers self.old.run event seat done self.new.run (reply_of result) }
+        ensures counted { totals_of self.new.run.log ≡ plus (totals_of self.old.run.log) (counted event (reply_of result)) }
+        ensures watched { AddsFrom P.watched seat (counted event (reply_of result)) self.old.run.log self.new.run.log }
+        ensures seated { StaysFrom seat self.old.run.log self.new.run.log }
+        ensures follows { Follows self.old event (reply_of result) self.new }
+    {
+        self.apply_as(alloc, event, seat, done, false)
+    }
+
+    /// One event, as `apply` takes it. With `is_own` what was done is done on a job of this run: see `Board::apply_own`.
+    pub(crate) fn apply_as(
+        &mut self,
+        alloc: Global,
+        event: Event,
+        seat: u8,
+        done: Option<Done<S>>,
+        is_own: bool,
+    ) -> Reply<S>
+        requires may { MayApply P.is_open event }
+        requires own { is_own ≡ true → IsOwn self.old.run.log done }
+        ensures own { GivesOwn self.new.run.log (reply_of result) }
         ensures answers { Answers self.old.run event seat done self.new.run (reply_of result) }
         ensures counted { totals_of self.new.run.log ≡ plus (totals_of self.old.run.log) (counted event (reply_of result)) }
         ensures watched { AddsFrom P.watched seat (counted event (reply_of result)) self.old.run.log self.new.run.log }
@@ -168,7 +212,7 @@ impl<S: ScriptName, P: RunName> Turning<S, P> {
         ensures follows { Follows self.old event (reply_of result) self.new }
     {
         let taken = self.taken;
-        self.apply_past(alloc, event, seat, done, taken)
+        self.apply_past(alloc, event, seat, done, is_own, taken)
     }
 
     /// The plan's next line.
@@ -216,8 +260,9 @@ impl<S: ScriptName, P: RunName> Turning<S, P> {
     }
 
     /// The event of the run's own that was chosen.
-    fn take(&mut self, alloc: Global, seat: u8, event: Event) -> Turn<S>
+    fn take(&mut self, alloc: Global, seat: u8, event: Event) -> Turn<Job<S>>
         requires { MayApply P.is_open event }
+        ensures own { TurnGivesOwn self.new.run.log (told_of result) }
         ensures takes { Takes self.old event seat self.new (told_of result) }
         ensures counted { totals_of self.new.run.log ≡ plus (totals_of self.old.run.log) (turn_counted (told_of result)) }
         ensures watched { AddsFrom P.watched seat (turn_counted (told_of result)) self.old.run.log self.new.run.log }
@@ -231,9 +276,10 @@ impl<S: ScriptName, P: RunName> Turning<S, P> {
     }
 
     /// The event of the plan's next line, which was chosen.
-    fn take_line(&mut self, alloc: Global, seat: u8, event: Event) -> Turn<S>
+    fn take_line(&mut self, alloc: Global, seat: u8, event: Event) -> Turn<Job<S>>
         requires chosen { choice self.old ≡ Plans event }
         requires goes_on { self.old.given_up ≡ None }
+        ensures own { TurnGivesOwn self.new.run.log (told_of result) }
         ensures takes { Takes (record self.old { taken = past_line self.old.plan self.old.taken }) event seat
             self.new (told_of result) }
         ensures counted { totals_of self.new.run.log ≡ plus (totals_of self.old.run.log) (turn_counted (told_of result)) }
@@ -241,7 +287,7 @@ impl<S: ScriptName, P: RunName> Turning<S, P> {
         ensures seated { StaysFrom seat self.old.run.log self.new.run.log }
     {
         let past = self.past_line();
-        match self.apply_past(alloc, event, seat, None, past) {
+        match self.apply_past(alloc, event, seat, None, false, past) {
             Reply::Job(job) => Turn::Job(job),
             Reply::Ok => Turn::Did,
             Reply::Refused(refusal) => Turn::Refused(refusal),
@@ -253,7 +299,8 @@ impl<S: ScriptName, P: RunName> Turning<S, P> {
     /// else, where a live worker's job is out, nothing is done; else the plan's next line is applied; else the run is at its end.
     ///
     /// Once the run is given up it is at its end too: behind an event that was refused 37, 38 or 39, or where there was no memory.
-    pub fn turn(&mut self, alloc: Global, seat: u8) -> Turn<S>
+    pub fn turn(&mut self, alloc: Global, seat: u8) -> Turn<Job<S>>
+        ensures own { TurnGivesOwn self.new.run.log (told_of result) }
         ensures turned { Turned self.old seat self.new (told_of result) }
         ensures counted { totals_of self.new.run.log ≡ plus (totals_of self.old.run.log) (turn_counted (told_of result)) }
         ensures watched { AddsFrom P.watched seat (turn_counted (told_of result)) self.old.run.log self.new.run.log }

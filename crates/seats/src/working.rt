@@ -9,12 +9,12 @@ ghost use Rattle.seats.specs.Counted.{counted};
 
 use crate::gate::Gate;
 use crate::run_name::RunName;
+use crate::seen_job::{SeenFrames, SeenJob};
 use crate::shared::Shared;
 use crate::turn::Turn;
-use kept_frames::Frames;
 use run_paths::Reply;
 use seat_books::Seat;
-use segment::{Compiled, Job, NoMemory, ScriptName};
+use segment::{Compiled, NoMemory, ScriptName};
 use std::alloc::Global;
 use std::rt::Clock;
 use std::sync::Wait;
@@ -66,9 +66,9 @@ fn run_job<
     shared: &Shared<S, P, E, G, C, J, V, H, D, M>,
     seat: &mut Seat<P, E, G, C, J, V, H, D, M>,
     script: &Compiled,
-    frames: &mut Frames<S>,
+    frames: &mut SeenFrames<S, P>,
     gate: &K,
-    job: Job<S>,
+    job: SeenJob<S, P>,
 ) -> Result<Reply<S>, NoMemory>
     requires { script_of script.now ≡ S.script }
     ensures handed_in { IfOk result (λ told. seat.new ≡ with_more (counted (Commit job.number) (reply_of told)) seat.old) }
@@ -76,7 +76,7 @@ fn run_job<
 {
     gate.enter(job.number());
     let done = frames.run(alloc, script, job)?;
-    let told = shared.commit(rt, alloc, seat, done);
+    let told = shared.commit_own(rt, alloc, seat, done);
     show(rt, shared, gate);
     Ok(told)
 }
@@ -101,9 +101,9 @@ fn do_job<
     shared: &Shared<S, P, E, G, C, J, V, H, D, M>,
     seat: &mut Seat<P, E, G, C, J, V, H, D, M>,
     script: &Compiled,
-    frames: &mut Frames<S>,
+    frames: &mut SeenFrames<S, P>,
     gate: &K,
-    job: Job<S>,
+    job: SeenJob<S, P>,
 )
     requires { script_of script.now ≡ S.script }
     ensures { seat.new.number ≡ seat.old.number }
@@ -141,7 +141,7 @@ pub fn work<
     ensures { result.number ≡ seat.number }
 {
     let mut seat = seat;
-    let mut frames = Frames::new(alloc);
+    let mut frames = SeenFrames::new(alloc, shared.seen(rt));
     for _ in rt.forever() {
         match shared.turn(rt, alloc, &mut seat) {
             Turn::Job(job) => do_job(rt, alloc, shared, &mut seat, script, &mut frames, gate, job),

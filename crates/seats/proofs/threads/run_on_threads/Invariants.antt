@@ -31,3 +31,6 @@ ghosts-run_shared-D-Ledger g a = record { name = a.further.commits.name; parts =
 
 abbrev pub ghosts-run_shared-M-Ledger : goal.ghosts-run_shared-M-Ledger
 ghosts-run_shared-M-Ledger g a = record { name = a.further.committed.name; parts = a.further.committed.parts }
+
+abbrev pub ghosts-run_shared-P-LogName : goal.ghosts-run_shared-P-LogName
+ghosts-run_shared-P-LogName g a = record { book = a.opened.seen.book }

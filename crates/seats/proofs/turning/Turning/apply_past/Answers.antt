@@ -21,10 +21,10 @@ use Rattle.seats.proofs.turning.Turning.apply_past.Goals as goal
 pub commits_behind-self-inside-requires : goal.commits_behind-self-inside-requires
 commits_behind-self-inside-requires g c =
     let before = c.self.inside.board in
-    let after = c.apply-told.new.self in
+    let after = c.step-told.new.board in
     let e = c.args.event in
-    let told = reply_of c.apply-told.result in
-    let h = answers_counted before after e c.args.seat c.args.done told c.self.invariant.0 c.apply-told.ensures.answers in
+    let told = reply_of c.step-told.result in
+    let h = answers_counted before after e c.args.seat c.args.done told c.self.invariant.0 c.step-told.ensures.answers in
     subst (λ n. c.self.inside.commits + (counted e told).commits ≤ n) (sym c.entries_of-most.ensures)
     (few_behind (totals_of before.log) (counted e told) after.log c.self.inside.commits h.totals c.self.invariant.1)
 
@@ -32,36 +32,36 @@ commits_behind-self-inside-requires g c =
 pub invariant_of-self : goal.invariant_of-self
 invariant_of-self g c =
     let before = c.self.inside.board in
-    let after = c.apply-told.new.self in
+    let after = c.step-told.new.board in
     let e = c.args.event in
-    let told = reply_of c.apply-told.result in
+    let told = reply_of c.step-told.result in
     let is_open = g.P.RunName.is_open in
     let t : TurnState = record { run = before; plan = c.self.inside.plan; taken = c.self.inside.taken; out = c.self.inside.out; given_up = c.self.inside.given_up } in
     let es = first_events c.args.taken c.self.inside.plan in
-    let h = answers_counted before after e c.args.seat c.args.done told c.self.invariant.0 c.apply-told.ensures.answers in
+    let h = answers_counted before after e c.args.seat c.args.done told c.self.invariant.0 c.step-told.ensures.answers in
     let out = c.keep_or_give_up.new.out in
     let kept : IsKept out after.log c.keep_or_give_up.new.given_up =
     kept_behind c.self.inside.out c.self.inside.given_up before after e c.args.seat c.args.done told out c.keep_or_give_up.new.given_up
-    c.self.invariant.0 c.apply-told.ensures.answers (record { jobs = c.self.invariant.8; within = c.self.invariant.9 }) c.keep_or_give_up.ensures in
+    c.self.invariant.0 c.step-told.ensures.answers (record { jobs = c.self.invariant.8; within = c.self.invariant.9 }) c.keep_or_give_up.ensures in
     let passes : Passes is_open t e c.args.taken =
-    subst (λ (r : TurnState). Passes is_open r e c.args.taken) (sym c.self.view_is) c.requires in (
+    subst (λ (r : TurnState). Passes is_open r e c.args.taken) (sym c.self.view_is) c.requires.passes in (
       h.jobs,
       commits_now (totals_of before.log) (counted e told) after.log c.self.inside.commits c.commits_behind-self-inside.result
           h.totals c.self.invariant.1 c.commits_behind-self-inside.ensures,
       c.self.invariant.2,
-      same_nodes before after e c.args.seat c.args.done told c.apply-told.ensures.answers ∙ c.self.invariant.3,
+      same_nodes before after e c.args.seat c.args.done told c.step-told.ensures.answers ∙ c.self.invariant.3,
       slots_kept g.P.RunName.size.slots after e told c.self.inside.out c.self.inside.given_up c.keep_or_give_up.new.out c.keep_or_give_up.new.given_up
-          (slots_behind g.P.RunName.size.slots before after e c.args.seat c.args.done told c.self.inside.given_up c.apply-told.ensures.answers
+          (slots_behind g.P.RunName.size.slots before after e c.args.seat c.args.done told c.self.inside.given_up c.step-told.ensures.answers
           c.self.invariant.4)
           c.keep_or_give_up.ensures,
       stands_kept es after.log e told c.self.inside.out c.self.inside.given_up c.keep_or_give_up.new.out c.keep_or_give_up.new.given_up
-          (stands_past is_open t after e c.args.seat c.args.done told c.args.taken passes c.apply-told.ensures.answers c.self.invariant.5)
+          (stands_past is_open t after e c.args.seat c.args.done told c.args.taken passes c.step-told.ensures.answers c.self.invariant.5)
           c.keep_or_give_up.ensures,
       keeps_kept is_open es after.log e told c.self.inside.out c.self.inside.given_up c.keep_or_give_up.new.out c.keep_or_give_up.new.given_up
-          (keeps_past is_open t after e c.args.seat c.args.done told c.args.taken passes c.apply-told.ensures.answers c.self.invariant.6)
+          (keeps_past is_open t after e c.args.seat c.args.done told c.args.taken passes c.step-told.ensures.answers c.self.invariant.6)
           c.keep_or_give_up.ensures,
       c.paths_go_on.ensures.one_more g.S.ScriptName.script (first_state g.P.RunName.size.nodes g.P.RunName.size.slots) before after e
-          c.args.seat c.args.done told c.self.invariant.7 c.attest.ensures c.apply-told.ensures.answers,
+          c.args.seat c.args.done told c.self.invariant.7 c.attest.ensures c.step-told.ensures.answers,
       kept.jobs,
       kept.within,
     )
@@ -70,10 +70,10 @@ invariant_of-self g c =
 pub returns-clause-counted : goal.returns-clause-counted
 returns-clause-counted g c =
     let before = c.self.inside.board in
-    let after = c.apply-told.new.self in
+    let after = c.step-told.new.board in
     let e = c.args.event in
-    let told = reply_of c.apply-told.result in
-    let h = answers_counted before after e c.args.seat c.args.done told c.self.invariant.0 c.apply-told.ensures.answers in
+    let told = reply_of c.step-told.result in
+    let h = answers_counted before after e c.args.seat c.args.done told c.self.invariant.0 c.step-told.ensures.answers in
     let P : TurnState → Type 0 = λ r. totals_of after.log ≡ plus (totals_of r.run.log) (counted e told) in
     subst P c.self.view_is h.totals
 
@@ -81,10 +81,10 @@ returns-clause-counted g c =
 pub returns-clause-watched : goal.returns-clause-watched
 returns-clause-watched g c =
     let before = c.self.inside.board in
-    let after = c.apply-told.new.self in
+    let after = c.step-told.new.board in
     let e = c.args.event in
-    let told = reply_of c.apply-told.result in
-    let h = answers_counted before after e c.args.seat c.args.done told c.self.invariant.0 c.apply-told.ensures.answers in
+    let told = reply_of c.step-told.result in
+    let h = answers_counted before after e c.args.seat c.args.done told c.self.invariant.0 c.step-told.ensures.answers in
     let w = g.P.Watching.watched in
     let P : TurnState → Type 0 = λ r. AddsFrom w c.args.seat (counted e told) r.run.log after.log in
     subst P c.self.view_is (h.of_seat w)
@@ -93,8 +93,8 @@ returns-clause-watched g c =
 pub returns-clause-seated : goal.returns-clause-seated
 returns-clause-seated g c =
     let before = c.self.inside.board in
-    let after = c.apply-told.new.self in
+    let after = c.step-told.new.board in
     let e = c.args.event in
-    let told = reply_of c.apply-told.result in
+    let told = reply_of c.step-told.result in
     let P : TurnState → Type 0 = λ r. StaysFrom c.args.seat r.run.log after.log in
-    subst P c.self.view_is (stays_from before after e c.args.seat c.args.done told c.apply-told.ensures.answers)
+    subst P c.self.view_is (stays_from before after e c.args.seat c.args.done told c.step-told.ensures.answers)

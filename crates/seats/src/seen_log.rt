@@ -1,0 +1,67 @@
+// How much of its log a run on threads shares with its seats.
+
+ghost use Rattle.std.specs.Prelude.{◌≡◌, true};
+ghost use mathlib.Core.List.{IsPrefix};
+ghost use Rattle.seats.specs.Turns.{TurnGivesOwn};
+ghost use Rattle.seats.specs.Views.{told_of};
+
+use crate::seen_job::SeenJob;
+use crate::turn::Turn;
+use log_entries::Entry;
+use segment::{Job, ScriptName};
+use shared_log::{LogName, LogPrefix, SharedLog};
+
+/// The log that the seats of a run share, and what was seen of it: all, where it is whole.
+#[derive(Drop)]
+pub struct SeenLog<P: LogName> {
+    log: SharedLog<P>,
+    /// A beginning of the log.
+    pub seen: LogPrefix<P>,
+    /// Whether it is the run's log.
+    pub is_whole: bool,
+}
+
+impl<P: LogName> SeenLog<P> {
+    /// A log that is shared from here on, of which that is all.
+    pub fn new(log: SharedLog<P>, seen: LogPrefix<P>) -> SeenLog<P>
+        ensures { result.seen ≡ seen }
+    {
+        SeenLog {
+            log,
+            seen,
+            is_whole: true,
+        }
+    }
+
+    /// Goes on to the run's log as it is now.
+    pub fn follow(&mut self, log: &[Entry])
+        requires { self.old.is_whole ≡ true → IsPrefix self.old.seen log.now }
+        ensures { self.new.is_whole ≡ true → self.new.seen ≡ log.now }
+    {
+        if self.is_whole {
+            self.is_whole = self.seen.extend(&self.log, log);
+        }
+    }
+
+    /// Whether the log, which is whole, goes on from that beginning.
+    pub fn goes_on_from(&self, seen: &LogPrefix<P>) -> bool
+        ensures whole { result ≡ true → self.now.is_whole ≡ true }
+        ensures goes_on { result ≡ true → IsPrefix seen.now self.now.seen }
+    {
+        self.is_whole && seen.begins(&self.seen)
+    }
+
+    /// The job that the turn gives out, if it does, as one of a run whose log is whole.
+    pub fn give<S: ScriptName>(&self, told: Turn<Job<S>>) -> Turn<SeenJob<S, P>>
+        requires { self.now.is_whole ≡ true → TurnGivesOwn self.now.seen (told_of told) }
+        ensures { told_of result ≡ told_of told }
+    {
+        match told {
+            Turn::Job(job) => Turn::Job(SeenJob::new(job, self.seen.again(), self.is_whole)),
+            Turn::Did => Turn::Did,
+            Turn::Refused(refusal) => Turn::Refused(refusal),
+            Turn::Again => Turn::Again,
+            Turn::End => Turn::End,
+        }
+    }
+}

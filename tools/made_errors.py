@@ -25,6 +25,7 @@ LIST = [
     ("owner_steps/src/recovery.rt", "give_up_by", VALUE, "passes on a plan's `NoMemory`, which `lineage` makes of a refused growth"),
     ("protocol_data/src/copies.rt", "make_room", VALUE,
      "the list of shelves couldn't grow: its error has the shelf with it, which is put back before the error is told"),
+    ("fault_lists/src/first_lists.rt", "FirstLists::add", REFUSED, "there is no number of lists past 2^64 - 1"),
     ("frame_code/src/names.rt", "slot", REFUSED, "an instruction has no number for a register past 2^32 - 1: the clause `refused`"),
     ("frame_code/src/names.rt", "further", REFUSED, "an instruction has no number for more than 255 further results: the clause `refused`"),
     ("frame_code/src/names.rt", "following", REFUSED, "there is no register, and no weight, behind 2^32 - 1: the clause `refused`"),

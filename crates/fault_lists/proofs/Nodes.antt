@@ -1,5 +1,5 @@
 -- The lists with a fault at each node, from none to one node more.
-use Rattle.std.proofs.Common.{◌≡◌, ℕ, suc, ◌+◌, List, [], ◌∷◌, ◌++◌, refl, sym, ap, ◌∙◌, append-nil, append_assoc, arith}
+use Rattle.std.proofs.Common.{◌≡◌, ℕ, suc, ◌+◌, List, [], ◌∷◌, ◌++◌, refl, ap, ◌∙◌, arith}
 use Rattle.meaning.specs.Values.{Id}
 use Rattle.event_log.specs.Entries.{Evict, Lose, KillNode}
 use Rattle.faulted_history.specs.declared.fault_list.FaultList.{FaultList}
@@ -43,13 +43,3 @@ next_eviction place o n = refl
 pub one_eviction_more : (place : ℕ) (o : Id) (n : ℕ) → evictions place o (n + 1) ≡ evictions place o n ++ alone place (Evict (n + 1) o) ∷ []
 one_eviction_more place o n =
     ap (λ m. evictions place o m) (one_more n) ∙ next_eviction place o n ∙ ap (λ m. evictions place o n ++ alone place (Evict m o) ∷ []) (omega arith)
-
--- nothing more stands behind a list
-pub nothing_more : (before all : List FaultList) → all ≡ [] → before ≡ before ++ all
-nothing_more before all none = sym (ap (λ xs. before ++ xs) none ∙ append-nil before)
-
--- one more behind a list, and behind its end
-pub one_more_behind : (before lists new all next : List FaultList) (x : FaultList) → new ≡ lists ++ x ∷ [] → lists ≡ before ++ all → next ≡ all ++ x ∷ [] →
-    new ≡ before ++ next
-one_more_behind before lists new all next x more so_far longer =
-    more ∙ ap (λ xs. xs ++ x ∷ []) so_far ∙ append_assoc before all (x ∷ []) ∙ ap (λ xs. before ++ xs) (sym longer)

@@ -4,6 +4,7 @@
 mod all_lists;
 mod choice;
 mod ending;
+mod first_lists;
 pub mod law;
 mod lines;
 mod log_events;
@@ -12,10 +13,11 @@ mod table;
 mod told;
 mod tried;
 
-pub use all_lists::{fault_lists, first_lists};
+pub use all_lists::fault_lists;
 pub use choice::FaultChoice;
 pub use ending::{RunEnd, attempts_in, end_of};
 pub use faulted_history::{FaultList, event_list};
+pub use first_lists::FirstLists;
 pub use lines::event_lines;
 pub use log_events::events_in;
 pub use table::table_text;

@@ -10,7 +10,7 @@ use crate::event_lines::EventLines;
 use crate::replay_inputs::read_replay_inputs;
 use crate::replays::replayed;
 use fault_lists::{
-    FaultChoice, Tried, attempts_in, events_in, fault_lists, first_lists, status_of_all, table_text,
+    FaultChoice, Tried, attempts_in, events_in, fault_lists, status_of_all, table_text,
 };
 use fault_runs::{Cluster, TrialWatcher, try_lists};
 use log_entries::{Entry, Event};
@@ -54,13 +54,13 @@ fn try_faults<S: ScriptName, L: TrialWatcher>(
     ensures only { IfErr result (λ refusal. refusal ≡ CommandRefusal.NoMemory) }
 {
     let history = events_in(alloc, log)?;
-    let lists = fault_lists(alloc, log, u32::from(cluster.nodes()), choice)?;
-    let first = first_lists(lists.as_slice(), most);
+    let lists = fault_lists(alloc, log, u32::from(cluster.nodes()), choice, most)?;
+    let first = lists.first.as_slice();
     let Ok(tried) = try_lists::<S, L>(alloc, script, cluster, history.as_slice(), first, watcher)
     else {
         return Err(CommandRefusal::NoMemory);
     };
-    let table = table_text(alloc, lists.len(), attempts_in(log), tried.as_slice())?;
+    let table = table_text(alloc, lists.count, attempts_in(log), tried.as_slice())?;
     let status = status_of_all(tried.as_slice());
     Ok(ToldFaults {
         faults: TriedFaults {

@@ -23,7 +23,7 @@ use Rattle.protocol.specs.Cluster.{ClusterState}
 use Rattle.protocol_owed.proofs.Counting.{happens-counted, no_event}
 use Rattle.run_paths.specs.of_protocol_board.Cores.{RunState, Reply, Refuses, Answers, Follows}
 use Rattle.seats.specs.Ends.{first_events}
-use Rattle.seats.specs.Outside.{HasNoOther, KeepsToThem, MayApply, Passes, is_outside, outside}
+use Rattle.seats.specs.Outside.{HasNoOther, IsTurn, KeepsToThem, MayApply, Passes, is_outside, outside}
 use Rattle.seats.specs.Turns.{Choice, Does, Ends, KeepsOut, TurnState, busy, choice, due, given_up_by, or_claim, or_first, or_message, or_plan, or_wait}
 use Rattle.seats.specs.declared.outs.JobOut.{JobOut}
 use Rattle.seats.proofs.Planned.{past_events, plans_line}
@@ -92,89 +92,6 @@ goes_on is_open es es_now before after e seat done told more answers h = by_halt
     by_halt true f = subst (λ t. KeepsToThem is_open es_now after.log (given_up_by t None)) (sym (answers.halted f).1) tt
     by_halt false f = follows (answers.follows f)
 
--- ---- by the lines that are taken
-
-closed_own : (b is_open : Bool) → (b ≡ true → is_open ≡ true) → is_open ≡ false → b ≡ false
-closed_own false is_open may closed = refl
-closed_own true is_open may closed = sym (may refl) ∙ closed
-
-own_more : (is_open : Bool) (es : List Event) (e : Event) → MayApply is_open e → IsMore is_open es es e
-own_more is_open es e may closed =
-    let own : outside (e ∷ []) ≡ [] = ap (λ (b : Bool). if b then e ∷ [] else []) (closed_own (is_outside e) is_open may closed) in
-    sym (ap (λ xs. outside es ++ xs) own ∙ append-nil (outside es))
-
-passes_more : (is_open : Bool) (t : TurnState) (e : Event) (taken : ℕ) → Passes is_open t e taken →
-    IsMore is_open (first_events t.taken t.plan) (first_events taken t.plan) e
-passes_more is_open t e taken (inl (same, may)) =
-    subst (λ n. IsMore is_open (first_events t.taken t.plan) (first_events n t.plan) e) (sym same) (own_more is_open (first_events t.taken t.plan) e may)
-passes_more is_open t e taken (inr (same, chosen, free)) = λ closed.
-    ap (λ n. outside (first_events n t.plan)) same
-    ∙ (ap outside (past_events t.plan t.taken e (plans_line t e chosen)) ∙ outside_more (first_events t.taken t.plan) e)
-
--- ---- behind an event of a run that was given up: it is the run's own
-
-own_has : (is_open : Bool) (es : List Event) (before after : RunState) (e : Event) (seat : ℕ) (done : Option Done) (told : Reply) → MayApply is_open e →
-    Answers before e seat done after told → HasNoOther is_open es before.log → HasNoOther is_open es after.log
-own_has is_open es before after e seat done told may answers h = by_halt before.is_halted refl
-  where
-    unlogged : after.log ≡ before.log → HasNoOther is_open es after.log
-    unlogged same = subst (λ l. HasNoOther is_open es l) (sym same) h
-
-    follows : Follows before e seat done after told → HasNoOther is_open es after.log
-    follows (inl out) = unlogged out.same
-    follows (inr (handed, is_handed, is)) = has_more is_open es es before after.log e seat handed (own_more is_open es e may) is.log h
-
-    by_halt : (b : Bool) → before.is_halted ≡ b → HasNoOther is_open es after.log
-    by_halt true f = unlogged (ap (λ (r : RunState). r.log) (answers.halted f).0)
-    by_halt false f = follows (answers.follows f)
-
-own_keeps : (is_open : Bool) (es : List Event) (before after : RunState) (e : Event) (seat : ℕ) (done : Option Done) (told : Reply) (x : Refusal) →
-    MayApply is_open e → Answers before e seat done after told → KeepsToThem is_open es before.log (Some x) → KeepsToThem is_open es after.log (Some x)
-own_keeps is_open es before after e seat ran told refusals.Limit may answers h = own_has is_open es before after e seat ran told may answers h
-own_keeps is_open es before after e seat ran told x may answers h = tt
-
-pub stays_so : (told : Reply) (x : Refusal) → given_up_by told (Some x) ≡ Some x
-stays_so (Refuses refusals.Limit) x = refl
-stays_so (Refuses refusals.Halted) x = refl
-stays_so (Refuses refusals.NoMemory) x = refl
-stays_so told x = refl
-
-given_up : (is_open : Bool) (t : TurnState) (after : RunState) (e : Event) (seat : ℕ) (done : Option Done) (told : Reply) (taken : ℕ) (x : Refusal) →
-    t.given_up ≡ Some x → Passes is_open t e taken → Answers t.run e seat done after told →
-    KeepsToThem is_open (first_events t.taken t.plan) t.run.log (Some x) → KeepsToThem is_open (first_events taken t.plan) after.log (Some x)
-given_up is_open t after e seat ran told taken x g (inl (same, may)) answers h =
-    subst (λ n. KeepsToThem is_open (first_events n t.plan) after.log (Some x)) (sym same)
-    (own_keeps is_open (first_events t.taken t.plan) t.run after e seat ran told x may answers h)
-given_up is_open t after e seat ran told taken x g (inr (same, chosen, free)) answers h =
-    let bad : ◌≡◌ {A = Option Refusal} None (Some x) = sym free ∙ g in
-    absurd (cc)
-
--- behind an event with its answer
-pub keeps_past : (is_open : Bool) (t : TurnState) (after : RunState) (e : Event) (seat : ℕ) (done : Option Done) (told : Reply) (taken : ℕ) →
-    Passes is_open t e taken → Answers t.run e seat done after told → KeepsToThem is_open (first_events t.taken t.plan) t.run.log t.given_up →
-    KeepsToThem is_open (first_events taken t.plan) after.log (given_up_by told t.given_up)
-keeps_past is_open t after e seat done told taken passes answers h = by_given t.given_up refl h
-  where
-    by_given : (g : Option Refusal) → t.given_up ≡ g → KeepsToThem is_open (first_events t.taken t.plan) t.run.log g →
-        KeepsToThem is_open (first_events taken t.plan) after.log (given_up_by told g)
-    by_given None f k =
-        goes_on is_open (first_events t.taken t.plan) (first_events taken t.plan) t.run after e seat done told (passes_more is_open t e taken passes) answers k
-    by_given (Some x) f k =
-        subst (KeepsToThem is_open (first_events taken t.plan) after.log) (sym (stays_so told x))
-        (given_up is_open t after e seat done told taken x f passes answers k)
-
--- and where there is no memory to keep that a job is out
-pub keeps_kept : (is_open : Bool) (es : List Event) (log : List Entry) (e : Event) (told : Reply) (out : List JobOut) (g : Option Refusal)
-    (out_now : List JobOut) (g_now : Option Refusal) →
-    KeepsToThem is_open es log (given_up_by told g) → KeepsOut e told out g out_now g_now → KeepsToThem is_open es log g_now
-keeps_kept is_open es log e told out g out_now g_now h (inl kept) = subst (KeepsToThem is_open es log) (sym kept.1) h
-keeps_kept is_open es log e told out g out_now g_now h (inr kept) =
-    subst (KeepsToThem is_open es log) (sym kept.1) (first_refused is_open es log (given_up_by told g) h)
-
--- a run that begins
-pub none_yet : (is_open : Bool) (log : List Entry) → log ≡ opening → HasNoOther is_open [] log
-none_yet is_open log h = λ closed. ap (λ l. outside (events l)) h
-
 -- ---- what a turn does of itself
 
 abbrev done_event : Event → Choice → Event
@@ -214,6 +131,112 @@ does_own t e h =
 true_or_false : {A : Type 0} (b : Bool) → b ≡ false → b ≡ true → A
 true_or_false b f t = absurd cc
 
--- a turn may apply it
-pub does_may : (is_open : Bool) (t : TurnState) (e : Event) → choice t ≡ Does e → MayApply is_open e
-does_may is_open t e h = λ from_outside. true_or_false (is_outside e) (does_own t e h) from_outside
+-- the event is the run's own, or the run is open
+abbrev IsAllowed : Bool → Event → Type 0
+IsAllowed is_open e = is_outside e ≡ true → is_open ≡ true
+
+-- so is what a call may apply
+may_allowed : (is_open : Bool) (e : Event) (done : Option Done) → MayApply is_open e done → IsAllowed is_open e
+may_allowed is_open (Commit j) done may = λ from_outside. true_or_false false refl from_outside
+may_allowed is_open (Claim w) done may = λ from_outside. may
+may_allowed is_open (Deliver k) done may = λ from_outside. may
+may_allowed is_open (Tick w) done may = λ from_outside. may
+may_allowed is_open (Notice w v) done may = λ from_outside. may
+may_allowed is_open (NoticeNode w n) done may = λ from_outside. may
+may_allowed is_open (Evict n o) done may = λ from_outside. may
+may_allowed is_open (Lose n o) done may = λ from_outside. may
+may_allowed is_open (Kill w) done may = λ from_outside. may
+may_allowed is_open (KillNode n) done may = λ from_outside. may
+may_allowed is_open Join done may = λ from_outside. may
+
+-- and what a turn is to do
+turn_allowed : (is_open : Bool) (t : TurnState) (e : Event) (done : Option Done) → IsTurn t e done → IsAllowed is_open e
+turn_allowed is_open t e done is = λ from_outside. true_or_false (is_outside e) (does_own t e is.0) from_outside
+
+allowed : (is_open : Bool) (t : TurnState) (e : Event) (done : Option Done) → MayApply is_open e done ⊎ IsTurn t e done → IsAllowed is_open e
+allowed is_open t e done (inl may) = may_allowed is_open e done may
+allowed is_open t e done (inr is) = turn_allowed is_open t e done is
+
+-- ---- by the lines that are taken
+
+closed_own : (b is_open : Bool) → (b ≡ true → is_open ≡ true) → is_open ≡ false → b ≡ false
+closed_own false is_open may closed = refl
+closed_own true is_open may closed = sym (may refl) ∙ closed
+
+own_more : (is_open : Bool) (es : List Event) (e : Event) → IsAllowed is_open e → IsMore is_open es es e
+own_more is_open es e may closed =
+    let own : outside (e ∷ []) ≡ [] = ap (λ (b : Bool). if b then e ∷ [] else []) (closed_own (is_outside e) is_open may closed) in
+    sym (ap (λ xs. outside es ++ xs) own ∙ append-nil (outside es))
+
+passes_more : (is_open : Bool) (t : TurnState) (e : Event) (done : Option Done) (taken : ℕ) → Passes is_open t e done taken →
+    IsMore is_open (first_events t.taken t.plan) (first_events taken t.plan) e
+passes_more is_open t e done taken (inl (same, may)) =
+    subst (λ n. IsMore is_open (first_events t.taken t.plan) (first_events n t.plan) e) (sym same)
+    (own_more is_open (first_events t.taken t.plan) e (allowed is_open t e done may))
+passes_more is_open t e done taken (inr (same, chosen, free)) = λ closed.
+    ap (λ n. outside (first_events n t.plan)) same
+    ∙ (ap outside (past_events t.plan t.taken e (plans_line t e chosen)) ∙ outside_more (first_events t.taken t.plan) e)
+
+-- ---- behind an event of a run that was given up: it is the run's own
+
+own_has : (is_open : Bool) (es : List Event) (before after : RunState) (e : Event) (seat : ℕ) (done : Option Done) (told : Reply) → IsAllowed is_open e →
+    Answers before e seat done after told → HasNoOther is_open es before.log → HasNoOther is_open es after.log
+own_has is_open es before after e seat done told may answers h = by_halt before.is_halted refl
+  where
+    unlogged : after.log ≡ before.log → HasNoOther is_open es after.log
+    unlogged same = subst (λ l. HasNoOther is_open es l) (sym same) h
+
+    follows : Follows before e seat done after told → HasNoOther is_open es after.log
+    follows (inl out) = unlogged out.same
+    follows (inr (handed, is_handed, is)) = has_more is_open es es before after.log e seat handed (own_more is_open es e may) is.log h
+
+    by_halt : (b : Bool) → before.is_halted ≡ b → HasNoOther is_open es after.log
+    by_halt true f = unlogged (ap (λ (r : RunState). r.log) (answers.halted f).0)
+    by_halt false f = follows (answers.follows f)
+
+own_keeps : (is_open : Bool) (es : List Event) (before after : RunState) (e : Event) (seat : ℕ) (done : Option Done) (told : Reply) (x : Refusal) →
+    IsAllowed is_open e → Answers before e seat done after told → KeepsToThem is_open es before.log (Some x) → KeepsToThem is_open es after.log (Some x)
+own_keeps is_open es before after e seat ran told refusals.Limit may answers h = own_has is_open es before after e seat ran told may answers h
+own_keeps is_open es before after e seat ran told x may answers h = tt
+
+pub stays_so : (told : Reply) (x : Refusal) → given_up_by told (Some x) ≡ Some x
+stays_so (Refuses refusals.Limit) x = refl
+stays_so (Refuses refusals.Halted) x = refl
+stays_so (Refuses refusals.NoMemory) x = refl
+stays_so told x = refl
+
+given_up : (is_open : Bool) (t : TurnState) (after : RunState) (e : Event) (seat : ℕ) (done : Option Done) (told : Reply) (taken : ℕ) (x : Refusal) →
+    t.given_up ≡ Some x → Passes is_open t e done taken → Answers t.run e seat done after told →
+    KeepsToThem is_open (first_events t.taken t.plan) t.run.log (Some x) → KeepsToThem is_open (first_events taken t.plan) after.log (Some x)
+given_up is_open t after e seat ran told taken x g (inl (same, may)) answers h =
+    subst (λ n. KeepsToThem is_open (first_events n t.plan) after.log (Some x)) (sym same)
+    (own_keeps is_open (first_events t.taken t.plan) t.run after e seat ran told x (allowed is_open t e ran may) answers h)
+given_up is_open t after e seat ran told taken x g (inr (same, chosen, free)) answers h =
+    let bad : ◌≡◌ {A = Option Refusal} None (Some x) = sym free ∙ g in
+    absurd (cc)
+
+-- behind an event with its answer
+pub keeps_past : (is_open : Bool) (t : TurnState) (after : RunState) (e : Event) (seat : ℕ) (done : Option Done) (told : Reply) (taken : ℕ) →
+    Passes is_open t e done taken → Answers t.run e seat done after told → KeepsToThem is_open (first_events t.taken t.plan) t.run.log t.given_up →
+    KeepsToThem is_open (first_events taken t.plan) after.log (given_up_by told t.given_up)
+keeps_past is_open t after e seat done told taken passes answers h = by_given t.given_up refl h
+  where
+    by_given : (g : Option Refusal) → t.given_up ≡ g → KeepsToThem is_open (first_events t.taken t.plan) t.run.log g →
+        KeepsToThem is_open (first_events taken t.plan) after.log (given_up_by told g)
+    by_given None f k =
+        goes_on is_open (first_events t.taken t.plan) (first_events taken t.plan) t.run after e seat done told (passes_more is_open t e done taken passes) answers k
+    by_given (Some x) f k =
+        subst (KeepsToThem is_open (first_events taken t.plan) after.log) (sym (stays_so told x))
+        (given_up is_open t after e seat done told taken x f passes answers k)
+
+-- and where there is no memory to keep that a job is out
+pub keeps_kept : (is_open : Bool) (es : List Event) (log : List Entry) (e : Event) (told : Reply) (out : List JobOut) (g : Option Refusal)
+    (out_now : List JobOut) (g_now : Option Refusal) →
+    KeepsToThem is_open es log (given_up_by told g) → KeepsOut e told out g out_now g_now → KeepsToThem is_open es log g_now
+keeps_kept is_open es log e told out g out_now g_now h (inl kept) = subst (KeepsToThem is_open es log) (sym kept.1) h
+keeps_kept is_open es log e told out g out_now g_now h (inr kept) =
+    subst (KeepsToThem is_open es log) (sym kept.1) (first_refused is_open es log (given_up_by told g) h)
+
+-- a run that begins
+pub none_yet : (is_open : Bool) (log : List Entry) → log ≡ opening → HasNoOther is_open [] log
+none_yet is_open log h = λ closed. ap (λ l. outside (events l)) h

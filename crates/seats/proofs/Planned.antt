@@ -140,7 +140,7 @@ event_in es before after e seat done told answers h = by_halt before.is_halted r
 
 -- behind an event with its answer, by the lines that are taken
 pub stands_past : (is_open : Bool) (t : TurnState) (after : RunState) (e : Event) (seat : ℕ) (done : Option Done) (told : Reply) (taken : ℕ) →
-    Passes is_open t e taken → Answers t.run e seat done after told → Stands (first_events t.taken t.plan) t.run.log t.given_up →
+    Passes is_open t e done taken → Answers t.run e seat done after told → Stands (first_events t.taken t.plan) t.run.log t.given_up →
     Stands (first_events taken t.plan) after.log (given_up_by told t.given_up)
 stands_past is_open t after e seat done told taken (inl (same, may)) answers h =
     subst (λ n. Stands (first_events n t.plan) after.log (given_up_by told t.given_up)) (sym same)

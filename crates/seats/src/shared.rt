@@ -120,7 +120,7 @@ impl<
         done: Option<Done<S>>,
         is_own: bool,
     ) -> Reply<S>
-        requires may { MayApply P.is_open event }
+        requires may { MayApply P.is_open event done }
         requires own { is_own ≡ true → IsOwn self.old.turning.run.log done }
         ensures { seat.new ≡ with_more (counted event (reply_of result)) seat.old }
     {
@@ -335,8 +335,8 @@ impl<
         Ok(locked.gathered(seats).into_end())
     }
 
-    /// Applies one event from the seat, with nothing done on a job, under the lock, and counts it in the seat's book. The log names the seat. One
-    /// from outside may be applied to an open run alone: elsewhere such an event stands for a line of the plan, which a turn takes.
+    /// Applies one event from the seat to an open run, with nothing done on a job, under the lock, and counts it in the seat's book. The log names the
+    /// seat. To any other run turns alone apply events, but for the commits of its jobs: see `turn` and `commit_own`.
     pub fn step<R: Wait>(
         &self,
         rt: &R,
@@ -344,7 +344,7 @@ impl<
         seat: &mut Seat<P, E, G, C, J, V, H, D, M>,
         event: Event,
     ) -> Reply<S>
-        requires { MayApply P.is_open event }
+        requires { P.is_open ≡ true }
         ensures { seat.new ≡ with_more (counted event (reply_of result)) seat.old }
     {
         self.locked.lock(rt).apply(alloc, seat, event, None, false)
@@ -377,7 +377,8 @@ impl<
         gate.look(self.locked.lock(rt).turning.log());
     }
 
-    /// Claims the worker's next part of its task, and counts it in the seat's book. The reply is the board's: the job that is given out, or why there is none.
+    /// Claims the worker's next part of its task, of an open run, and counts it in the seat's book. The reply is the board's: the job that is given out,
+    /// or why there is none.
     pub fn claim<R: Wait>(
         &self,
         rt: &R,
@@ -385,6 +386,7 @@ impl<
         seat: &mut Seat<P, E, G, C, J, V, H, D, M>,
         worker: WorkerId,
     ) -> Reply<S>
+        requires { P.is_open ≡ true }
         ensures { seat.new ≡ with_more (counted (Claim worker) (reply_of result)) seat.old }
     {
         self.step(rt, alloc, seat, Event::Claim(worker))
@@ -404,7 +406,8 @@ impl<
         self.locked.lock(rt).commit(alloc, seat, done)
     }
 
-    /// Commits what was done on any job, and counts it in the seat's book. The reply is the board's: `Ok`, or why the commit is refused.
+    /// Commits what was done on any job, to an open run, and counts it in the seat's book. The reply is the board's: `Ok`, or why the commit is
+    /// refused.
     pub fn commit<R: Wait>(
         &self,
         rt: &R,
@@ -412,6 +415,7 @@ impl<
         seat: &mut Seat<P, E, G, C, J, V, H, D, M>,
         done: Done<S>,
     ) -> Reply<S>
+        requires { P.is_open ≡ true }
         ensures { seat.new ≡ with_more (counted (Commit done.job.number) (reply_of result)) seat.old }
     {
         let event = Event::Commit(done.job().number());

@@ -12,7 +12,7 @@ ghost use Rattle.seats.specs.Counted.{AddsFrom, IsFresh, counted};
 ghost use Rattle.seats.specs.Ends.{EndsFor, HasEnded, IsOverBeside, log_at, size_of};
 ghost use Rattle.seats.specs.Outside.{MayApply, Passes};
 ghost use Rattle.seats.specs.Seated.{AreFrom, StaysFrom};
-ghost use Rattle.seats.specs.Turns.{Follows, Plans, Takes, TurnGivesOwn, Turned, choice, due, is_at_end, or_first, past_line, turn_counted};
+ghost use Rattle.seats.specs.Turns.{Does, Follows, Plans, Takes, TurnGivesOwn, Turned, choice, due, is_at_end, or_first, past_line, turn_counted};
 ghost use Rattle.seats.specs.Views.{choice_of, told_of};
 
 use crate::choice::{Choice, behind_plan, due};
@@ -154,7 +154,7 @@ impl<S: ScriptName, P: RunName> Turning<S, P> {
         is_own: bool,
         taken: usize,
     ) -> Reply<S>
-        requires passes { Passes P.is_open self.old event taken }
+        requires passes { Passes P.is_open self.old event done taken }
         requires own { is_own ≡ true → IsOwn self.old.run.log done }
         ensures own { GivesOwn self.new.run.log (reply_of result) }
         ensures answers { Answers self.old.run event seat done self.new.run (reply_of result) }
@@ -182,7 +182,7 @@ impl<S: ScriptName, P: RunName> Turning<S, P> {
         seat: u8,
         done: Option<Done<S>>,
     ) -> Reply<S>
-        requires { MayApply P.is_open event }
+        requires { MayApply P.is_open event done }
         ensures own { GivesOwn self.new.run.log (reply_of result) }
         ensures answers { Answers self.old.run event seat done self.new.run (reply_of result) }
         ensures counted { totals_of self.new.run.log ≡ plus (totals_of self.old.run.log) (counted event (reply_of result)) }
@@ -202,7 +202,7 @@ impl<S: ScriptName, P: RunName> Turning<S, P> {
         done: Option<Done<S>>,
         is_own: bool,
     ) -> Reply<S>
-        requires may { MayApply P.is_open event }
+        requires may { MayApply P.is_open event done }
         requires own { is_own ≡ true → IsOwn self.old.run.log done }
         ensures own { GivesOwn self.new.run.log (reply_of result) }
         ensures answers { Answers self.old.run event seat done self.new.run (reply_of result) }
@@ -261,14 +261,15 @@ impl<S: ScriptName, P: RunName> Turning<S, P> {
 
     /// The event of the run's own that was chosen.
     fn take(&mut self, alloc: Global, seat: u8, event: Event) -> Turn<Job<S>>
-        requires { MayApply P.is_open event }
+        requires chosen { choice self.old ≡ Does event }
         ensures own { TurnGivesOwn self.new.run.log (told_of result) }
         ensures takes { Takes self.old event seat self.new (told_of result) }
         ensures counted { totals_of self.new.run.log ≡ plus (totals_of self.old.run.log) (turn_counted (told_of result)) }
         ensures watched { AddsFrom P.watched seat (turn_counted (told_of result)) self.old.run.log self.new.run.log }
         ensures seated { StaysFrom seat self.old.run.log self.new.run.log }
     {
-        match self.apply(alloc, event, seat, None) {
+        let taken = self.taken;
+        match self.apply_past(alloc, event, seat, None, false, taken) {
             Reply::Job(job) => Turn::Job(job),
             Reply::Ok => Turn::Did,
             Reply::Refused(refusal) => Turn::Refused(refusal),

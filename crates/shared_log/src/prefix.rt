@@ -1,6 +1,6 @@
 // A shared log, which exists in contracts alone, and beginnings of it that were seen.
 
-ghost use Rattle.std.specs.Prelude.{◌≡◌, ◌⊎◌, [], length, true};
+ghost use Rattle.std.specs.Prelude.{◌≡◌, ◌⊎◌, ◌<◌, [], length, true, false};
 ghost use mathlib.Core.List.{IsPrefix};
 ghost use Rattle.shared_log.specs.Rules.{word_of};
 
@@ -123,6 +123,7 @@ impl<J: LogName> LogPrefix<J> {
         requires named { log.now ≡ B.log }
         requires goes_on { IsPrefix self.old log.now }
         ensures grown { result ≡ true → self.new ≡ log.now }
+        ensures longer { result ≡ false → length self.old < length self.new }
         ensures seen { IsPrefix self.old self.new }
     {
         let entries = log.len() as u64;
@@ -150,6 +151,7 @@ impl<J: LogName> LogPrefix<J> {
     pub fn extend(&mut self, shared: &SharedLog<J>, log: &[Entry]) -> bool
         requires { IsPrefix self.old log.now }
         ensures grown { result ≡ true → self.new ≡ log.now }
+        ensures longer { result ≡ false → length self.old < length self.new }
         ensures seen { IsPrefix self.old self.new }
     {
         self.grow::<Brand>(shared, log)

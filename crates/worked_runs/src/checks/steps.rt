@@ -15,6 +15,7 @@ use raysim_commands::{Board, Cluster, Core, Reply, RunName, Shared};
 use seat_books::{Blanks, Seat};
 use segment::{Compiled, ScriptName};
 use sequence::Seq;
+use shared_log::OpenedLog;
 use std::alloc::Global;
 use std::marker::Brand;
 use std::sync::Wait;
@@ -40,7 +41,8 @@ fn begin<
     shared: &Shared<S, P, E, G, C, J, V, H, D, M>,
     seat: &mut Seat<P, E, G, C, J, V, H, D, M>,
 ) -> bool
-    requires { script_of script.now ≡ S.script }
+    requires script { script_of script.now ≡ S.script }
+    requires open { P.is_open ≡ true }
 {
     let Reply::Job(job) = shared.claim(rt, alloc, seat, WorkerId(1)) else {
         return false;
@@ -110,8 +112,10 @@ fn report_of<
     script: &Compiled,
     blanks: Blanks,
     further: Blanks,
+    opened: OpenedLog,
 ) -> Result<String, Failed>
     requires script { script_of script.now ≡ S.script }
+    requires log { opened.seen.book ≡ P.book }
     requires named { (P.plan ≡ []) × (P.size ≡ record { nodes = 1; slots = 4 }) × (P.is_open ≡ true) }
     requires seats { P.seats ≡ 2 }
     requires watched { P.watched ≡ 2 }
@@ -134,7 +138,7 @@ fn report_of<
         lines: Seq::new(alloc),
     };
     let (shared, mut seats) = Shared::<S, P, E, G, C, J, V, H, D, M>::new(
-        alloc, blanks, further, board, plan, 2, 2,
+        alloc, blanks, further, opened, board, plan, 2, 2,
     )?;
     let begun = begin(rt, alloc, script, &shared, &mut seats[0]);
     let went_on = go_on(rt, alloc, &shared, &mut seats[1]);
@@ -166,7 +170,14 @@ pub fn a_run_by_claim_commit_and_step<R: AllocGlobal + Wait>(rt: &R) -> Checked 
         Brand,
         Brand,
         R,
-    >(rt, alloc, &script, Blanks::new(3), Blanks::new(1))?;
+    >(
+        rt,
+        alloc,
+        &script,
+        Blanks::new(3),
+        Blanks::new(1),
+        OpenedLog::new(),
+    )?;
     let wanted =
         "main fault RetriesUsed o1.1\nattempt a1.1#0 w2 open\nresolved o1.1 RetriesUsed o1.1\nreleased o1.1\n";
     wants(report.as_str() == wanted, "the report")

@@ -191,8 +191,8 @@ fn try_each<S: ScriptName, R: Print + AllocGlobal>(
     let alloc = rt.alloc();
     let events = events_in(alloc, log)?;
     let nodes = u32::from(ground.cluster.nodes());
-    let lists = fault_lists(alloc, log, nodes, CHOICE)?;
-    for list in lists.as_slice() {
+    let lists = fault_lists(alloc, log, nodes, CHOICE, usize::MAX)?;
+    for list in lists.first.as_slice() {
         try_list::<S, R>(rt, script, ground, events.as_slice(), list, tally)?;
     }
     Ok(())

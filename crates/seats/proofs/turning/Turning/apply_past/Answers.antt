@@ -43,8 +43,8 @@ invariant_of-self g c =
     let kept : IsKept out after.log c.keep_or_give_up.new.given_up =
     kept_behind c.self.inside.out c.self.inside.given_up before after e c.args.seat c.args.done told out c.keep_or_give_up.new.given_up
     c.self.invariant.0 c.step-told.ensures.answers (record { jobs = c.self.invariant.8; within = c.self.invariant.9 }) c.keep_or_give_up.ensures in
-    let passes : Passes is_open t e c.args.taken =
-    subst (λ (r : TurnState). Passes is_open r e c.args.taken) (sym c.self.view_is) c.requires.passes in (
+    let passes : Passes is_open t e c.args.done c.args.taken =
+    subst (λ (r : TurnState). Passes is_open r e c.args.done c.args.taken) (sym c.self.view_is) c.requires.passes in (
       h.jobs,
       commits_now (totals_of before.log) (counted e told) after.log c.self.inside.commits c.commits_behind-self-inside.result
           h.totals c.self.invariant.1 c.commits_behind-self-inside.ensures,

@@ -34,3 +34,6 @@ ghosts-report_of-D-Ledger g a = record { name = a.further.commits.name; parts = 
 
 abbrev pub ghosts-report_of-M-Ledger : goal.ghosts-report_of-M-Ledger
 ghosts-report_of-M-Ledger g a = record { name = a.further.committed.name; parts = a.further.committed.parts }
+
+abbrev pub ghosts-report_of-P-LogName : goal.ghosts-report_of-P-LogName
+ghosts-report_of-P-LogName g a = record { book = a.opened.seen.book }

@@ -3,7 +3,7 @@ use Rattle.std.proofs.Common.{◌≡◌, ℕ, zero, suc, ◌<◌, ◌^◌, ◌==
 use Rattle.std.specs.Prelude.{IfSome, codes, if◌then◌else◌}
 use Rattle.std.specs.Fmt.{decimal}
 use Rattle.std.proofs.lemmas.List.{append_assoc}
-use Rattle.event_log.specs.Entries.{Event, Fault, FaultKind, OwnerDied, PutLost, RetriesUsed}
+use Rattle.event_log.specs.Entries.{Event, FaultKind, OwnerDied, PutLost, RetriesUsed}
 use Rattle.log_entries.specs.Texts.{event_text}
 use Rattle.event_files.specs.Files.{IsFile, Row, Passed, Said, AreRows, all_said, rows_text}
 use Rattle.event_files.specs.Lines.{AreEvents, IsEvent, IsLine, line_text}

@@ -1,8 +1,7 @@
 -- The lists with a fault at each node, from none to one node more.
-use Rattle.std.proofs.Common.{◌≡◌, ℕ, suc, ◌+◌, List, [], ◌∷◌, ◌++◌, refl, ap, ◌∙◌, arith}
+use Rattle.std.proofs.Common.{◌≡◌, ℕ, suc, ◌+◌, [], ◌∷◌, ◌++◌, refl, ap, ◌∙◌, arith}
 use Rattle.meaning.specs.Values.{Id}
 use Rattle.event_log.specs.Entries.{Evict, Lose, KillNode}
-use Rattle.faulted_history.specs.declared.fault_list.FaultList.{FaultList}
 use Rattle.fault_lists.specs.Lists.{alone, evictions, losses, node_deaths}
 
 one_more : (n : ℕ) → n + 1 ≡ suc n

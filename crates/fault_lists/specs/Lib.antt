@@ -1,4 +1,5 @@
 pub mod Firsts
+pub mod Kinds
 pub mod Lists
 pub mod Ends
 pub mod Tables

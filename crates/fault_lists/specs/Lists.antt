@@ -1,5 +1,5 @@
 -- The lists of events that are a run's history with one fault more.
-use Rattle.std.specs.Prelude.{ℕ, zero, suc, ◌+◌, Bool, if◌then◌else◌, nat_lt, List, [], ◌∷◌, ◌++◌, Option, Some, None, map}
+use Rattle.std.specs.Prelude.{ℕ, zero, suc, ◌+◌, Bool, if◌then◌else◌, nat_lt, List, [], ◌∷◌, ◌++◌, Some, None, map}
 use Rattle.std.specs.List.{flat_map}
 use Rattle.meaning.specs.Values.{Id}
 use Rattle.event_log.specs.Entries.{Event, Notice, Evict, Lose, Kill, KillNode, Join, Entry, In, Opened, Born}

@@ -49,8 +49,24 @@ fn tell_fault<R: Eprint>(rt: &R, at_fault: CallFault<'_>) -> ExitCode {
             "is no object, worker or node: they are written as o1.2, w3 and n1",
         ),
         CallFault::NoNumber(word) => fault(rt, word, "is no number of an event"),
+        CallFault::NoKind(name) => no_kind(rt, name),
+        CallFault::NoCount(word) => fault(rt, word, "is no number of lists"),
         CallFault::SoFarOnThreads => fault(rt, "--so-far", "is for no run on threads"),
     }
+}
+
+/// Tells that a name is none of a fault.
+fn no_kind<R: Eprint>(rt: &R, name: &str) -> ExitCode {
+    let name = if name.is_empty() {
+        "an empty word"
+    } else {
+        name
+    };
+    fault(
+        rt,
+        name,
+        "is no kind of fault: kill, notice, kill-node, lose and evict are, with commas between them",
+    )
 }
 
 /// Makes a call, and says with which status the program ends.

@@ -10,8 +10,7 @@ use crate::replays::Texts;
 use crate::told::{OUTPUT, Stop, fault, no_memory, stopped, tell};
 use raysim_calls::FaultsCall;
 use raysim_commands::{
-    CommandRefusal, EndKind, FaultChoice, FaultKind, Tracked, TriedFaults, faults, first_of,
-    list_file,
+    CommandRefusal, EndKind, FaultKind, Tracked, TriedFaults, faults, first_of, list_file,
 };
 use raysim_files::{WithError, try_output, write_whole};
 use refusal_reasons::ListKind;
@@ -44,104 +43,23 @@ fn file_name(kind: EndKind) -> &'static str {
     }
 }
 
-/// Which faults are tried, and how many lists at most.
-#[derive(Clone, Copy)]
-struct Wanted {
-    choice: FaultChoice,
-    most: usize,
-}
-
-/// What is tried where the words don't say.
-const USUAL: FaultChoice = FaultChoice {
-    kill: true,
-    told_kill: true,
-    kill_node: true,
-    lose: true,
-    evict: false,
-};
-
-const NOTHING: FaultChoice = FaultChoice {
-    kill: false,
-    told_kill: false,
-    kill_node: false,
-    lose: false,
-    evict: false,
-};
-
-/// The choice with the faults of that name too, if there are such.
-fn with_kind(choice: FaultChoice, name: &str) -> Option<FaultChoice> {
-    let mut more = choice;
-    match name {
-        "kill" => more.kill = true,
-        "notice" => more.told_kill = true,
-        "kill-node" => more.kill_node = true,
-        "lose" => more.lose = true,
-        "evict" => more.evict = true,
-        _ => return None,
-    }
-    Some(more)
-}
-
-/// The faults with these names, with commas between them; else the first name that is none of a fault.
-fn choice_of(names: &str) -> Result<FaultChoice, &str> {
-    let mut choice = NOTHING;
-    for name in names.split(',') {
-        match with_kind(choice, name) {
-            Some(more) => choice = more,
-            None => return Err(name),
-        }
-    }
-    Ok(choice)
-}
-
 /// Tries a fault at every place of a run, writes the table, and the lists where they are asked for; why it stops, where it does, is told.
 pub fn over_each_place<R: Files + Print + Eprint + AllocGlobal + Clock>(
     rt: &R,
     trial: &FaultsCall<'_>,
     asked: Asked,
 ) -> ExitCode {
-    let mut wanted = Wanted {
-        choice: USUAL,
-        most: usize::MAX,
-    };
-    if let Some(names) = trial.of {
-        match choice_of(names) {
-            Ok(choice) => wanted.choice = choice,
-            Err(name) => return no_kind(rt, name),
-        }
-    }
-    if let Some(text) = trial.most {
-        match text.parse::<usize>() {
-            Ok(most) => wanted.most = most,
-            Err(_) => return fault(rt, text, "is no number of lists"),
-        }
-    }
     if let Some(folder) = trial.out {
         if !is_fit(rt, folder) {
             return ExitCode::FAILURE;
         }
     }
-    try_faults(rt, trial, wanted, asked)
-}
-
-/// Tells that a name is none of a fault.
-fn no_kind<R: Eprint>(rt: &R, name: &str) -> ExitCode {
-    let name = if name.is_empty() {
-        "an empty word"
-    } else {
-        name
-    };
-    fault(
-        rt,
-        name,
-        "is no kind of fault: kill, notice, kill-node, lose and evict are, with commas between them",
-    )
+    try_faults(rt, trial, asked)
 }
 
 fn try_faults<R: Files + Print + Eprint + AllocGlobal + Clock>(
     rt: &R,
     trial: &FaultsCall<'_>,
-    wanted: Wanted,
     asked: Asked,
 ) -> ExitCode {
     let Some(texts) = read_texts(rt, trial) else {
@@ -153,8 +71,8 @@ fn try_faults<R: Files + Print + Eprint + AllocGlobal + Clock>(
         &mut Tracked::reader(texts.script.as_slice()),
         &mut Tracked::reader(texts.events.as_slice()),
         trial.cluster,
-        wanted.choice,
-        wanted.most,
+        trial.choice,
+        trial.most,
         &mut Tracked::writer(&mut output),
         &mut TrialLife::new(rt, asked),
     );

@@ -1,11 +1,13 @@
 -- What is called for a request: the command, and what it is given.
-use Rattle.std.specs.Prelude.{◌≡◌, ◌≢◌, ◌⊎◌, ◌<◌, ◌^◌, ℕ, Bool, true, false, List, codes, if◌then◌else◌, Option, None, Some, is_some, not, ◌||◌}
+use Rattle.std.specs.Prelude.{◌≡◌, ◌≢◌, ◌⊎◌, ◌<◌, ◌^◌, ◌-◌, Contains, ℕ, Bool, true, false, List, codes, if◌then◌else◌, Option, None, Some, is_some, not, ◌||◌}
 use Rattle.std.specs.Option.{option_map}
 use Rattle.std.specs.Str.Parse.{IsNumeral, digits_value, without_leading_plus}
 use Rattle.engine_text.specs.declared.program.Engine.{Engine}
 use Rattle.engine_text.specs.declared.program.Engine.TheVariants.{Dask, Ray}
 use Rattle.log_words.specs.declared.contents.Contents.{Contents}
 use Rattle.log_words.specs.declared.contents.Contents.TheVariants.{Cut, Whole}
+use Rattle.run_commands.specs.of_fault_lists.Kinds.{Chooses, ChoosesNone, no_faults, words_of}
+use Rattle.run_commands.specs.of_fault_lists.declared.choice.FaultChoice.{FaultChoice}
 use Rattle.run_commands.specs.of_protocol_board.Cores.{Size}
 use Rattle.run_commands.specs.declared.form.Form.{Form}
 use Rattle.run_commands.specs.declared.form.Form.TheVariants.{Json, Lineage, Log as LogForm, LogWithMessages, State as StateForm, Text, TextWithBooks, TextWithSummary, Timeline, WhyMain}
@@ -184,18 +186,6 @@ IsNoName (Some name) _ = ⊥
 abbrev pub IsWhyFault : WhyOptions → CallFault → Type 0
 IsWhyFault o f = IsNoName (option_map (λ s. s.now) o.object) f
 
-abbrev pub trial_of : FaultsOptions → FaultsCall
-trial_of o = record {
-  script = o.script;
-  events = o.events;
-  cluster = size o.nodes o.slots;
-  of = o.of;
-  most = o.most;
-  out = o.out;
-  explain = o.explain;
-  progress = o.progress;
-}
-
 abbrev pub engine_word : Engine → List ℕ
 engine_word Dask = codes "dask"
 engine_word Ray = codes "ray"
@@ -220,6 +210,56 @@ IsStateBy (Some text) o c = IsPlace text × (c ≡ calls.StateAt (state_replayed
 abbrev pub IsStateCall : StateOptions → Call → Type 0
 IsStateCall o c = IsStateBy (option_map (λ s. s.now) o.at) o c
 
+-- the text is a number of 64 bits, and which
+abbrev pub IsCountOf : List ℕ → ℕ → Type 0
+IsCountOf text n = IsPlace text × (n ≡ digits_value 10 (without_leading_plus text))
+
+-- every kind of fault but the loss of secondary copies alone
+abbrev pub usual_faults : FaultChoice
+usual_faults = record { kill = true; told_kill = true; kill_node = true; lose = true; evict = false }
+
+-- the kinds that the words name, or the usual ones
+abbrev pub IsChoiceBy : Option (List ℕ) → FaultChoice → Type 0
+IsChoiceBy None choice = choice ≡ usual_faults
+IsChoiceBy (Some text) choice = Chooses (words_of text) no_faults choice
+
+-- as many lists as the words say, or as a number of 64 bits can count
+abbrev pub IsMostBy : Option (List ℕ) → ℕ → Type 0
+IsMostBy None most = most ≡ 2 ^ 64 - 1
+IsMostBy (Some text) most = IsCountOf text most
+
+-- faults at each place of a run
+pub record IsFaultsCall (o : FaultsOptions) (c : Call) : Type 0 where
+  pub choice : FaultChoice
+  pub chosen : IsChoiceBy (option_map (λ s. s.now) o.of) choice
+  pub most : ℕ
+  pub counted : IsMostBy (option_map (λ s. s.now) o.most) most
+  pub call : c ≡ calls.Faults (record {
+    script = o.script;
+    events = o.events;
+    cluster = size o.nodes o.slots;
+    choice = choice;
+    most = most;
+    out = o.out;
+    explain = o.explain;
+    progress = o.progress;
+  })
+
+-- one of the words is the name of no kind
+abbrev pub IsNoKind : Option (List ℕ) → List ℕ → Type 0
+IsNoKind None word = ⊥
+IsNoKind (Some text) word = ChoosesNone word × Contains (words_of text) word
+
+-- the words are no number of lists
+abbrev pub IsNoCount : Option (List ℕ) → List ℕ → Type 0
+IsNoCount None word = ⊥
+IsNoCount (Some text) word = (word ≡ text) × (IsPlace text → ⊥)
+
+abbrev pub IsFaultsFault : FaultsOptions → CallFault → Type 0
+IsFaultsFault o (faults.NoKind word) = IsNoKind (option_map (λ s. s.now) o.of) word.now
+IsFaultsFault o (faults.NoCount word) = IsNoCount (option_map (λ s. s.now) o.most) word.now
+IsFaultsFault o _ = ⊥
+
 abbrev pub IsNoNumber : Option (List ℕ) → CallFault → Type 0
 IsNoNumber None f = ⊥
 IsNoNumber (Some text) (faults.NoNumber word) = (word.now ≡ text) × (IsPlace text → ⊥)
@@ -237,7 +277,7 @@ IsCallOf (asked.Sim o) c = c ≡ calls.Replay (sim_replayed o) (sim_form o) (sim
 IsCallOf (asked.Run o) c = IsRunCall o c
 IsCallOf (asked.Log o) c = IsLogCall o c
 IsCallOf (asked.Why o) c = IsWhyCall o c
-IsCallOf (asked.Faults o) c = c ≡ calls.Faults (trial_of o)
+IsCallOf (asked.Faults o) c = IsFaultsCall o c
 IsCallOf (asked.Migrate o) c = c ≡ calls.Migrate (migrated o)
 IsCallOf (asked.Explain what) c = c ≡ calls.Explain what
 IsCallOf (asked.Export o) c = IsExportCall o c
@@ -247,6 +287,7 @@ IsCallOf (asked.State o) c = IsStateCall o c
 abbrev pub IsFaultOf : Request → CallFault → Type 0
 IsFaultOf (asked.Run o) f = IsRunFault o f
 IsFaultOf (asked.Why o) f = IsWhyFault o f
+IsFaultOf (asked.Faults o) f = IsFaultsFault o f
 IsFaultOf (asked.Export o) f = IsExportFault o f
 IsFaultOf (asked.State o) f = IsStateFault o f
 IsFaultOf _ f = ⊥

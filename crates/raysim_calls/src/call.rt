@@ -6,7 +6,7 @@ ghost use Rattle.raysim_calls.specs.Calls.{is_report_alone, lineage_of, no_views
 use engine_text::Engine;
 use log_words::Contents;
 use raysim_options::ScriptOptions;
-use run_commands::{Cluster, Form};
+use run_commands::{Cluster, FaultChoice, Form};
 
 /// The files to which the timeline, the lineage and the page are written, how their long lists are, and whether the report is written as far as it
 /// goes where a run is stopped by a limit.
@@ -129,7 +129,7 @@ pub struct ReplayCall<'a> {
     pub explain: bool,
 }
 
-/// A run that is tried with a fault at each of its places. Kinds and number of the lists are as the words have them, not yet read.
+/// A run that is tried with a fault at each of its places.
 #[derive(Clone, Copy)]
 pub struct FaultsCall<'a> {
     /// The script's file.
@@ -139,9 +139,9 @@ pub struct FaultsCall<'a> {
     /// The nodes that the run begins with, and their slots.
     pub cluster: Cluster,
     /// Which kinds of faults are tried.
-    pub of: Option<&'a str>,
+    pub choice: FaultChoice,
     /// How many lists are tried at most.
-    pub most: Option<&'a str>,
+    pub most: usize,
     /// The folder in which the first list for each different end is written, if it is.
     pub out: Option<&'a str>,
     /// Whether a refusal's place is shown.
@@ -184,6 +184,10 @@ pub enum CallFault<'a> {
     NoName(&'a str),
     /// It is no number of an event.
     NoNumber(&'a str),
+    /// It names no kind of fault.
+    NoKind(&'a str),
+    /// It is no number of lists.
+    NoCount(&'a str),
     /// A run on threads has no report up to where it stops.
     SoFarOnThreads,
 }

@@ -1,9 +1,11 @@
 // What is called for a request.
 
 ghost use Rattle.std.specs.Prelude.{◌≡◌, IfErr, IfOk};
+ghost use Rattle.std.specs.Option.{option_map};
 ghost use Rattle.raysim_options.specs.Reads.{AreThreads, HasCluster, IsCluster};
 ghost use Rattle.raysim_calls.specs.Calls.{HasThreads, IsCallOf, IsExportCall, IsExportFault, IsFaultOf, IsLogCall, IsRunCall, IsRunFault, IsStateCall, IsStateFault};
-ghost use Rattle.raysim_calls.specs.Calls.{IsWhyCall, IsWhyFault, IsWhyReplay, run_of, trial_of, why_driven};
+ghost use Rattle.raysim_calls.specs.Calls.{IsWhyCall, IsWhyFault, IsWhyReplay, run_of, why_driven};
+ghost use Rattle.raysim_calls.specs.Calls.{IsChoiceBy, IsFaultsCall, IsFaultsFault, IsMostBy, IsNoCount, IsNoKind};
 
 use crate::call::{Call, CallFault, DriveCall, FaultsCall, ReplayCall, ThreadsCall, Views};
 use crate::forms::{
@@ -15,7 +17,7 @@ use raysim_options::{
     ExportOptions, FaultsOptions, LogOptions, Request, RunOptions, ScriptOptions, StateOptions,
     WhyOptions,
 };
-use run_commands::Form;
+use run_commands::{FaultChoice, Form, choice_named};
 
 /// A run that is driven or on threads.
 fn run_of<'a>(options: &RunOptions<'a>) -> DriveCall<'a>
@@ -141,20 +143,64 @@ fn why_call<'a>(options: &WhyOptions<'a>) -> Result<Call<'a>, CallFault<'a>>
     }
 }
 
-fn trial_of<'a>(options: &FaultsOptions<'a>) -> FaultsCall<'a>
-    requires { IsCluster options.now.nodes options.now.slots }
-    ensures { result ≡ trial_of options.now }
+/// What is tried where the words don't say.
+const USUAL: FaultChoice = FaultChoice {
+    kill: true,
+    told_kill: true,
+    kill_node: true,
+    lose: true,
+    evict: false,
+};
+
+/// The kinds that the words name; else the first that is the name of none.
+fn choice_of<'a>(names: Option<&'a str>) -> Result<FaultChoice, &'a str>
+    ensures chosen { IfOk result (IsChoiceBy (option_map (λ s. s.now) names)) }
+    ensures none { IfErr result (λ word. IsNoKind (option_map (λ s. s.now) names) word.now) }
 {
-    FaultsCall {
+    match names {
+        None => Ok(USUAL),
+        Some(text) => choice_named(text),
+    }
+}
+
+/// The number of lists that the words say; else what is none.
+fn most_of<'a>(count: Option<&'a str>) -> Result<usize, &'a str>
+    ensures counted { IfOk result (IsMostBy (option_map (λ s. s.now) count)) }
+    ensures none { IfErr result (λ word. IsNoCount (option_map (λ s. s.now) count) word.now) }
+{
+    let Some(text) = count else {
+        return Ok(usize::MAX);
+    };
+    match text.parse::<usize>() {
+        Ok(most) => Ok(most),
+        Err(_) => Err(text),
+    }
+}
+
+fn faults_call<'a>(options: &FaultsOptions<'a>) -> Result<Call<'a>, CallFault<'a>>
+    requires { IsCluster options.now.nodes options.now.slots }
+    ensures called { IfOk result (IsFaultsCall options.now) }
+    ensures at_fault { IfErr result (IsFaultsFault options.now) }
+    ensures threads { IfOk result HasThreads }
+{
+    let choice = match choice_of(options.of) {
+        Ok(choice) => choice,
+        Err(word) => return Err(CallFault::NoKind(word)),
+    };
+    let most = match most_of(options.most) {
+        Ok(most) => most,
+        Err(text) => return Err(CallFault::NoCount(text)),
+    };
+    Ok(Call::Faults(FaultsCall {
         script: options.script,
         events: options.events,
         cluster: cluster_of(options.nodes, options.slots),
-        of: options.of,
-        most: options.most,
+        choice,
+        most,
         out: options.out,
         explain: options.explain,
         progress: options.progress,
-    }
+    }))
 }
 
 fn export_call<'a>(options: &ExportOptions<'a>) -> Result<Call<'a>, CallFault<'a>>
@@ -224,7 +270,7 @@ pub fn call_of<'a>(request: &Request<'a>) -> Result<Call<'a>, CallFault<'a>>
         Request::Run(options) => run_call(options),
         Request::Log(options) => Ok(log_call(options)),
         Request::Why(options) => why_call(options),
-        Request::Faults(options) => Ok(Call::Faults(trial_of(options))),
+        Request::Faults(options) => faults_call(options),
         Request::Migrate(options) => Ok(Call::Migrate(ReplayCall {
             script: options.script,
             events: options.events,

@@ -7,3 +7,4 @@ pub mod SoFar
 pub mod States
 pub mod TrapReports
 pub use Rattle.fault_runs.specs.of_protocol_board as of_protocol_board
+pub use Rattle.fault_lists.specs as of_fault_lists

@@ -16,7 +16,7 @@ mod state_command;
 mod telling;
 mod trap_command;
 
-pub use fault_lists::{EndKind, FaultChoice, RunEnd, Tried, first_of, list_file};
+pub use fault_lists::{EndKind, FaultChoice, RunEnd, Tried, choice_named, first_of, list_file};
 pub use fault_runs::{Board, Cluster, Core, Replay, ReplayStop, Reply, TrialWatcher};
 pub use faults_command::{TriedFaults, faults};
 pub use form::{Form, report};

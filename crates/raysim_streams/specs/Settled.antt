@@ -7,15 +7,20 @@ use Rattle.std.specs.declared.io.ErrorKind.TheVariants.{BrokenPipe}
 use Rattle.raysim_streams.specs.declared.failure.Failure.{Failure}
 use Rattle.raysim_streams.specs.declared.failure.Failure.TheVariants.{Read, Write, Closed}
 
--- an error's name on a side: a write into a pipe that nobody reads tells that it is closed
-abbrev pub failure_by : ErrorKind → Failure → Failure
-failure_by BrokenPipe Write = Closed
-failure_by kind side = side
+-- what a failed write is called whose error has this kind: into a pipe that nobody reads any more it tells that it is closed
+abbrev pub failure_of_write : ErrorKind → Failure
+failure_of_write BrokenPipe = Closed
+failure_of_write kind = Write
 
--- what was done, where `least` bytes at least were to move
-abbrev pub settled : Result ℕ Error → ℕ → Failure → Result ℕ Failure
-settled (Ok n) least side = if nat_le least n then Ok n else Err side
-settled (Err e) least side = Err (failure_by (error_kind e) side)
+-- what a read comes to
+abbrev pub settled_read : Result ℕ Error → Result ℕ Failure
+settled_read (Ok n) = Ok n
+settled_read (Err e) = Err Read
+
+-- what a write comes to, where `least` bytes at least were to be written
+abbrev pub settled_write : Result ℕ Error → ℕ → Result ℕ Failure
+settled_write (Ok n) least = if nat_le least n then Ok n else Err Write
+settled_write (Err e) least = Err (failure_of_write (error_kind e))
 
 -- a count of failures after one more; it counts modulo 2 ^ 64, so that it never stands still
 abbrev pub one_more : ℕ → ℕ

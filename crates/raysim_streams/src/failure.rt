@@ -1,7 +1,7 @@
 // What a read or a write that failed is called, and when one has failed.
 
 ghost use Rattle.std.specs.Prelude.{◌≡◌, OnErr, OnOk};
-ghost use Rattle.raysim_streams.specs.Settled.{failure_by, one_more, settled};
+ghost use Rattle.raysim_streams.specs.Settled.{failure_of_write, one_more, settled_read, settled_write};
 
 use std::io;
 use std::io::ErrorKind;
@@ -21,28 +21,39 @@ pub enum Failure {
     Closed,
 }
 
-/// What an error of this kind is called on this side.
-fn failure_by(kind: ErrorKind, side: Failure) -> Failure
-    ensures { result ≡ failure_by kind side }
+/// What a failed write is called whose error has this kind.
+fn failure_of_write(kind: ErrorKind) -> Failure
+    ensures { result ≡ failure_of_write kind }
 {
     match kind {
-        ErrorKind::BrokenPipe => match side {
-            Failure::Write => Failure::Closed,
-            other => other,
-        },
-        _ => side,
+        ErrorKind::BrokenPipe => Failure::Closed,
+        _ => Failure::Write,
     }
 }
 
-/// What a read or a write comes to, where `least` bytes at least were to move. Where it failed `failures` has one more, modulo 2^64, and
-/// nowhere else.
-pub fn settle(
+/// What a read comes to. Where it failed `failures` has one more, modulo 2^64, and nowhere else.
+pub fn settle_read(done: io::Result<usize>, failures: &mut u64) -> Result<usize, Failure>
+    ensures settled { result ≡ settled_read done }
+    ensures failed { OnErr result (failures.new ≡ one_more failures.old) }
+    ensures unfailed { OnOk result (failures.new ≡ failures.old) }
+{
+    match done {
+        Ok(n) => Ok(n),
+        Err(_) => {
+            *failures = failures.wrapping_add(1);
+            Err(Failure::Read)
+        }
+    }
+}
+
+/// What a write comes to, where `least` bytes at least were to be written. Where it failed `failures` has one more, modulo 2^64, and nowhere
+/// else.
+pub fn settle_write(
     done: io::Result<usize>,
     least: usize,
-    side: Failure,
     failures: &mut u64,
 ) -> Result<usize, Failure>
-    ensures settled { result ≡ settled done least side }
+    ensures settled { result ≡ settled_write done least }
     ensures failed { OnErr result (failures.new ≡ one_more failures.old) }
     ensures unfailed { OnOk result (failures.new ≡ failures.old) }
 {
@@ -50,11 +61,11 @@ pub fn settle(
         Ok(n) if n >= least => Ok(n),
         Ok(_) => {
             *failures = failures.wrapping_add(1);
-            Err(side)
+            Err(Failure::Write)
         }
         Err(error) => {
             *failures = failures.wrapping_add(1);
-            Err(failure_by(error.kind(), side))
+            Err(failure_of_write(error.kind()))
         }
     }
 }

@@ -1,7 +1,7 @@
 // Reading, up to a bound.
 
 ghost use Rattle.std.specs.Prelude.{◌≡◌, ◌≤◌, ◌⊎◌, ℕ, List, Option, vec_len, take, IfOk, IfErr, IfSome, IsErrOf, OnOk};
-ghost use Rattle.std.specs.Io.KnownBytes.{ReadConsumes};
+ghost use Rattle.std.specs.Io.KnownBytes.{Consumes, ReadConsumes};
 ghost use Rattle.std.specs.Io.{ReadsAtMost};
 ghost use Rattle.raysim_streams.specs.Settled.{one_more};
 ghost use Rattle.raysim_streams.specs.declared.failure.Failure.TheVariants.{Read};
@@ -27,7 +27,8 @@ pub trait Source {
         ensures unfailed { OnOk result (failures self.new ≡ failures self.old) };
 }
 
-/// What is left, up to `most` bytes. `NoMemory`, or `Failed` where a read failed in this call. It ends at the first read that fails.
+/// What is left, up to `most` bytes. No more than these is taken from the reader. `NoMemory` where no read failed in this call, or `Failed`
+/// where one did. It ends at the first read that fails.
 pub fn read_at_most<R: Source>(
     alloc: Global,
     reader: &mut R,
@@ -35,8 +36,10 @@ pub fn read_at_most<R: Source>(
 ) -> Result<Vec<u8>, CommandRefusal>
     ensures ok { IfOk result (λ all. IfSome (R.left reader.old) (λ bytes. all.items ≡ take most bytes)) }
     ensures bound { IfOk result (λ all. vec_len all ≤ most) }
+    ensures taken { IfOk result (λ all. Consumes (R.left reader.old) (R.left reader.new) all.items) }
     ensures failed { IsErrOf result (refusals.Failed Read) → R.failures reader.new ≡ one_more (R.failures reader.old) }
     ensures unfailed { OnOk result (R.failures reader.new ≡ R.failures reader.old) }
+    ensures memory { IsErrOf result refusals.NoMemory → R.failures reader.new ≡ R.failures reader.old }
     ensures only { IfErr result (λ e. (e ≡ refusals.NoMemory) ⊎ (e ≡ refusals.Failed Read)) }
 {
     let mut all = Vec::new(alloc);

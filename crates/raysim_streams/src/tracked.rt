@@ -2,7 +2,7 @@
 
 ghost use Rattle.std.specs.Prelude.{◌≡◌};
 
-use crate::failure::{Failure, settle};
+use crate::failure::{Failure, settle_read, settle_write};
 use crate::sink::Sink;
 use crate::source::Source;
 use std::io::{Read, Write};
@@ -40,7 +40,7 @@ impl<R: Read> Source for Tracked<R> {
     ghost failures = { λ s. s.failures };
 
     fn read_some(&mut self, buf: &mut [u8]) -> Result<usize, Failure> {
-        settle(self.inner.read(buf), 0, Failure::Read, &mut self.failures)
+        settle_read(self.inner.read(buf), &mut self.failures)
     }
 }
 
@@ -51,11 +51,6 @@ impl<W: Write> Sink for Tracked<W> {
 
     fn put_some(&mut self, bytes: &[u8]) -> Result<usize, Failure> {
         let least = if bytes.is_empty() { 0 } else { 1 };
-        settle(
-            self.inner.write(bytes),
-            least,
-            Failure::Write,
-            &mut self.failures,
-        )
+        settle_write(self.inner.write(bytes), least, &mut self.failures)
     }
 }

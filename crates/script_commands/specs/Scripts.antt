@@ -1,5 +1,6 @@
 -- What a command says of a script's text.
-use Rattle.std.specs.Prelude.{◌≡◌, ◌⊎◌, ℕ, List, Option, IfSome, Result, Ok, Err}
+use Rattle.std.specs.Prelude.{◌≡◌, ◌⊎◌, ℕ, List, length, Option, IfSome, Result, Ok, Err}
+use Rattle.std.specs.Io.KnownBytes.{Consumes}
 use Rattle.meaning.specs.Syntax.{Script}
 use Rattle.script_tokens.specs.declared.error.SyntaxError.{SyntaxError}
 use Rattle.script_tokens.specs.declared.error.SyntaxError.TheVariants as syntax
@@ -113,6 +114,15 @@ IsUnwritten (WrongJob line) = Unit {0}
 IsUnwritten (Failed Read) = Unit {0}
 IsUnwritten (Failed Write) = ⊥
 IsUnwritten (Failed Closed) = ⊥
+
+-- a text that is refused for its length has one byte more than a script may have taken from the reader, and no other
+abbrev pub IsTakenSoFar : Option (List ℕ) → Option (List ℕ) → CommandRefusal → Type 0
+IsTakenSoFar old new (At code span) = (taken : List ℕ) × Consumes old new taken × (length taken ≡ 65537)
+IsTakenSoFar old new NoMemory = Unit {0}
+IsTakenSoFar old new (Stopped code) = Unit {0}
+IsTakenSoFar old new (BadLine line) = Unit {0}
+IsTakenSoFar old new (WrongJob line) = Unit {0}
+IsTakenSoFar old new (Failed failure) = Unit {0}
 
 -- the status of a command: its own, and 1 where it is refused
 abbrev pub exit_status : Result ℕ CommandRefusal → ℕ

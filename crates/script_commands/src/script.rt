@@ -1,8 +1,9 @@
 // How a command comes to a script: reads its text, checks it, and makes its code.
 
-ghost use Rattle.std.specs.Prelude.{◌≡◌, IfOk, IfErr, IfSome, OnOk};
+ghost use Rattle.std.specs.Prelude.{◌≡◌, ◌≤◌, vec_len, IfOk, IfErr, IfSome, OnOk};
+ghost use Rattle.std.specs.Io.KnownBytes.{Consumes};
 ghost use Rattle.script_check.specs.Trees.{script_of};
-ghost use Rattle.script_commands.specs.Scripts.{Counts, IsAllowed, IsPlaced, IsScript, IsRefusalOf, IsUnwritten, Explains, syntax_refusal, check_refusal};
+ghost use Rattle.script_commands.specs.Scripts.{Counts, IsAllowed, IsPlaced, IsScript, IsRefusalOf, IsTakenSoFar, IsUnwritten, Explains, syntax_refusal, check_refusal};
 
 use code_places::places;
 use raysim_streams::{CommandRefusal, Source, read_at_most};
@@ -14,12 +15,16 @@ use std::alloc::Global;
 /// How many bytes the text of a script may have.
 pub const MOST_BYTES: usize = 65_536;
 
-/// The text of a script. One of more than 65,536 bytes is refused 4 at 0..0, and all but one byte of the rest stays unread.
+/// The text of a script, and nothing else is taken from the reader. One of more than 65,536 bytes is refused 4 at 0..0, and all but one byte of
+/// the rest stays unread.
 pub fn read_script<R: Source>(alloc: Global, reader: &mut R) -> Result<Vec<u8>, CommandRefusal>
     ensures ok { IfOk result (λ all. IfSome (R.left reader.old) (λ bytes. all.items ≡ bytes)) }
     ensures refused { (writes : Counts) → IfErr result (λ refusal. Explains (R.left reader.old)
         (R.failures reader.old, R.failures reader.new) writes refusal) }
     ensures unwritten { IfErr result IsUnwritten }
+    ensures bound { IfOk result (λ all. vec_len all ≤ 65536) }
+    ensures taken { IfOk result (λ all. Consumes (R.left reader.old) (R.left reader.new) all.items) }
+    ensures unread { IfErr result (IsTakenSoFar (R.left reader.old) (R.left reader.new)) }
 {
     let text = read_at_most(alloc, reader, MOST_BYTES + 1)?;
     if text.len() > MOST_BYTES {

@@ -124,7 +124,7 @@ impl Ending {
     fn source(self) -> &'static str {
         match self {
             Ending::OwnerDied => {
-                "the death of the worker whose attempt made the reference, or of its node, before the object was asked for"
+                "the death of the worker whose attempt made the reference, or of its node, before a get of the object was answered"
             }
             Ending::PutLost =>
                 "a lose of the value on the node of the worker that put it, and a get behind it",

@@ -228,22 +228,25 @@ abbrev pub IsMostBy : Option (List ℕ) → ℕ → Type 0
 IsMostBy None most = most ≡ 2 ^ 64 - 1
 IsMostBy (Some text) most = IsCountOf text most
 
+abbrev pub trial_of : FaultsOptions → FaultChoice → ℕ → FaultsCall
+trial_of o choice most = record {
+  script = o.script;
+  events = o.events;
+  cluster = size o.nodes o.slots;
+  choice = choice;
+  most = most;
+  out = o.out;
+  explain = o.explain;
+  progress = o.progress;
+}
+
 -- faults at each place of a run
 pub record IsFaultsCall (o : FaultsOptions) (c : Call) : Type 0 where
   pub choice : FaultChoice
   pub chosen : IsChoiceBy (option_map (λ s. s.now) o.of) choice
   pub most : ℕ
   pub counted : IsMostBy (option_map (λ s. s.now) o.most) most
-  pub call : c ≡ calls.Faults (record {
-    script = o.script;
-    events = o.events;
-    cluster = size o.nodes o.slots;
-    choice = choice;
-    most = most;
-    out = o.out;
-    explain = o.explain;
-    progress = o.progress;
-  })
+  pub call : c ≡ calls.Faults (trial_of o choice most)
 
 -- one of the words is the name of no kind
 abbrev pub IsNoKind : Option (List ℕ) → List ℕ → Type 0

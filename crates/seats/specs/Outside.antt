@@ -32,7 +32,7 @@ KeepsToThem is_open es log (Some refusal) = Unit {0}
 -- a call may apply the event with what is handed in, if anything is: it commits what was done on a job; and any other where the run is open
 abbrev pub MayApply : Bool → Event → Option Done → Type 0
 MayApply is_open (Commit j) (Some d) = (j ≡ d.job.number) ⊎ (is_open ≡ true)
-MayApply is_open e done = is_open ≡ true
+MayApply is_open e handed = is_open ≡ true
 
 -- it is what a turn is to do, with nothing handed in
 abbrev pub IsTurn : TurnState → Event → Option Done → Type 0

@@ -9,6 +9,7 @@ mod outs;
 mod run_name;
 mod seen_job;
 mod seen_log;
+mod seen_turning;
 mod shared;
 mod tally;
 mod threads;

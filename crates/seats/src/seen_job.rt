@@ -3,8 +3,8 @@
 ghost use Rattle.std.specs.Prelude.{◌≡◌, true, IfOk};
 ghost use Rattle.script_check.specs.Trees.{script_of};
 ghost use Rattle.run_paths.specs.of_protocol_board.Cores.{IsOfLog};
-ghost use Rattle.run_paths.specs.of_protocol_board.Own.{FramesAreOwn};
 
+use crate::seen_log::SeenLog;
 use kept_frames::Frames;
 use segment::{Compiled, Done, Job, NoMemory, ScriptName};
 use shared_log::{LogName, LogPrefix};
@@ -65,29 +65,82 @@ impl<S: ScriptName, P: LogName> SeenJob<S, P> {
     }
 }
 
-/// What was done on a job of a run whose log is shared by the name `P`, seen as that.
+/// What was done on a job of a run whose log is shared by the name `P`, seen as that. Where the job is the run's own, what its attempt was answered
+/// begins what a beginning of the log has of answers to it.
 #[derive(Drop)]
 pub struct SeenDone<S: ScriptName, P: LogName> {
-    /// What was done, and on which job.
-    pub(crate) done: Done<S>,
-    /// A beginning of the log.
-    pub(crate) seen: LogPrefix<P>,
-    /// Whether it has what the job was answered.
-    pub(crate) is_own: bool,
-    pub ghost own: { is_own ≡ true → IsOfLog seen done.job },
+    done: Done<S>,
+    seen: LogPrefix<P>,
+    is_own: bool,
 }
 
-/// Frames of attempts that wait, kept by one thread, and how much it has seen of the run's log: that has what they were answered.
+impl<S: ScriptName, P: LogName> Model for SeenDone<S, P> {
+    ghost use Rattle.std.specs.Prelude.{◌≡◌, true};
+    ghost use Rattle.std.specs.Coded.{codes};
+    ghost use Rattle.held.specs.Codes.{birth_code, outcome_code, value_code};
+    ghost use Rattle.run_paths.specs.of_protocol_board.Cores.{IsOfLog};
+    ghost use Rattle.segment.specs.Jobs.{Done};
+
+    ghost Value = { Done };
+
+    ghost coded = { Prim.hlevel (codes, birth_code, value_code, outcome_code) };
+
+    ghost view = { λ d. d.done };
+
+    ghost invariant = { λ d. d.is_own ≡ true → IsOfLog d.seen d.done.job };
+}
+
+impl<S: ScriptName, P: LogName> SeenDone<S, P> {
+    /// The number of its job, counted from 1.
+    pub fn number(&self) -> u64
+        ensures { result ≡ self.now.job.number }
+    {
+        self.done.job().number()
+    }
+
+    /// What was done; whether the log goes on from a beginning of it that has what the job was answered, as far as is known.
+    pub(crate) fn of(self, log: &SeenLog<P>) -> (Done<S>, bool)
+        ensures done { result.0 ≡ self }
+        ensures whole { result.1 ≡ true → log.now.is_whole ≡ true }
+        ensures own { result.1 ≡ true → IsOfLog log.now.seen self.job }
+    {
+        let SeenDone { done, seen, is_own } = self;
+        if is_own && log.goes_on_from(&seen) {
+            return (done, true);
+        }
+        (done, false)
+    }
+}
+
+/// Frames of attempts that wait, kept by one thread, and how much it has seen of the run's log, as which contracts see them: that has what the
+/// attempts were answered.
 #[derive(Drop)]
 pub struct SeenFrames<S: ScriptName, P: LogName> {
     frames: Frames<S>,
     seen: LogPrefix<P>,
-    ghost own: { FramesAreOwn seen frames },
+}
+
+impl<S: ScriptName, P: LogName> Model for SeenFrames<S, P> {
+    ghost use Rattle.std.specs.Prelude.{List};
+    ghost use Rattle.std.specs.Coded.{codes};
+    ghost use Rattle.log_entries.specs.contracts.entry.Entry as entry;
+    ghost use Rattle.log_entries.specs.declared.entry.Entry.{Entry};
+    ghost use Rattle.run_paths.specs.of_protocol_board.Own.{FramesAreOwn};
+
+    ghost Value = { List Entry };
+
+    ghost coded = { Prim.hlevel (codes, entry.the_row.coded) };
+
+    ghost view = { λ f. f.seen };
+
+    ghost invariant = { λ f. FramesAreOwn f.seen f.frames };
 }
 
 impl<S: ScriptName, P: LogName> SeenFrames<S, P> {
     /// No frames yet.
-    pub fn new(alloc: Global, seen: LogPrefix<P>) -> SeenFrames<S, P> {
+    pub fn new(alloc: Global, seen: LogPrefix<P>) -> SeenFrames<S, P>
+        ensures { result ≡ seen }
+    {
         SeenFrames {
             frames: Frames::new(alloc),
             seen,
@@ -103,7 +156,7 @@ impl<S: ScriptName, P: LogName> SeenFrames<S, P> {
         given: SeenJob<S, P>,
     ) -> Result<SeenDone<S, P>, NoMemory>
         requires { script_of script.now ≡ S.script }
-        ensures { IfOk result (λ d. d.done.job ≡ given) }
+        ensures { IfOk result (λ d. d.job ≡ given) }
     {
         let SeenJob { job, seen, is_own } = given;
         if !is_own {

@@ -2,13 +2,8 @@
 
 ghost use Rattle.std.specs.Prelude.{◌≡◌, true};
 ghost use mathlib.Core.List.{IsPrefix};
-ghost use Rattle.seats.specs.Turns.{TurnGivesOwn};
-ghost use Rattle.seats.specs.Views.{told_of};
 
-use crate::seen_job::SeenJob;
-use crate::turn::Turn;
 use log_entries::Entry;
-use segment::{Job, ScriptName};
 use shared_log::{LogName, LogPrefix, SharedLog};
 
 /// The log that the seats of a run share, and what was seen of it: all, where it is whole.
@@ -49,19 +44,5 @@ impl<P: LogName> SeenLog<P> {
         ensures goes_on { result ≡ true → IsPrefix seen.now self.now.seen }
     {
         self.is_whole && seen.begins(&self.seen)
-    }
-
-    /// The job that the turn gives out, if it does, as one of a run whose log is whole.
-    pub fn give<S: ScriptName>(&self, told: Turn<Job<S>>) -> Turn<SeenJob<S, P>>
-        requires { self.now.is_whole ≡ true → TurnGivesOwn self.now.seen (told_of told) }
-        ensures { told_of result ≡ told_of told }
-    {
-        match told {
-            Turn::Job(job) => Turn::Job(SeenJob::new(job, self.seen.again(), self.is_whole)),
-            Turn::Did => Turn::Did,
-            Turn::Refused(refusal) => Turn::Refused(refusal),
-            Turn::Again => Turn::Again,
-            Turn::End => Turn::End,
-        }
     }
 }

@@ -1,6 +1,6 @@
 // A run under a lock, with the books of four ledgers.
 
-ghost use Rattle.std.specs.Prelude.{◌≡◌, ◌≤◌, ◌<◌, [], true, IfOk, IfErr, IsOk, Some, length};
+ghost use Rattle.std.specs.Prelude.{◌≡◌, ◌≤◌, ◌<◌, true, IfOk, IfErr, IsOk, Some, length};
 ghost use Rattle.books.specs.SeatTotals.{seat_totals};
 ghost use Rattle.event_log.specs.Books.{totals_of};
 ghost use Rattle.event_log.specs.Entries.{Claim, Commit};
@@ -20,7 +20,7 @@ use crate::end::Ended;
 use crate::gate::Gate;
 use crate::run_name::RunName;
 use crate::seen_job::{SeenDone, SeenJob};
-use crate::seen_log::SeenLog;
+use crate::seen_turning::SeenTurning;
 use crate::tally::{tally_of, turn_tally};
 use crate::turn::Turn;
 use crate::turning::Turning;
@@ -76,7 +76,7 @@ impl<
     ghost invariant = { λ s. (1 ≤ s.seats) × (s.seats ≡ P.seats) × AreParts s.seats E.parts };
 }
 
-/// The run, the ledgers of its seats, and the log that these share.
+/// The run, and the ledgers of its seats.
 #[derive(Drop)]
 struct Locked<
     S: ScriptName,
@@ -90,13 +90,11 @@ struct Locked<
     D: Ledger,
     M: Ledger,
 > {
-    turning: Turning<S, P>,
+    turning: SeenTurning<S, P>,
     ledgers: Ledgers<P, E, G, C, J, V, H, D, M>,
-    log: SeenLog<P>,
     ghost all_add_up: { totals_of turning.run.log ≡ ledgers.all },
     ghost watched_add_up: { seat_totals P.watched turning.run.log ≡ ledgers.watched },
     ghost seated: { AreFrom P.seats turning.run.log },
-    ghost whole: { log.is_whole ≡ true → log.seen ≡ turning.run.log },
 }
 
 impl<
@@ -124,33 +122,28 @@ impl<
         requires own { is_own ≡ true → IsOwn self.old.turning.run.log done }
         ensures { seat.new ≡ with_more (counted event (reply_of result)) seat.old }
     {
-        let Locked {
-            turning,
-            ledgers,
-            log,
-        } = self;
-        let told = turning.apply_as(alloc, event, seat.number(), done, is_own);
-        log.follow(turning.log());
+        let Locked { turning, ledgers } = self;
+        let told = turning.apply(alloc, event, seat.number(), done, is_own);
         let more = tally_of(&event, &told);
         ledgers.count(seat, more);
         told
     }
 
-    /// Commits what was done on a job, whose answers aren't compared where it is known to be the run's own.
+    /// Commits what was done on a job that the run gave out, counted in the seat's book.
     fn commit(
         &mut self,
         alloc: Global,
         seat: &mut Seat<P, E, G, C, J, V, H, D, M>,
         done: SeenDone<S, P>,
     ) -> Reply<S>
-        ensures { seat.new ≡ with_more (counted (Commit done.done.job.number) (reply_of result)) seat.old }
+        ensures { seat.new ≡ with_more (counted (Commit done.job.number) (reply_of result)) seat.old }
     {
-        let SeenDone { done, seen, is_own } = done;
-        let event = Event::Commit(done.job().number());
-        if is_own && self.log.goes_on_from(&seen) {
-            return self.apply(alloc, seat, event, Some(done), true);
-        }
-        self.apply(alloc, seat, event, Some(done), false)
+        let Locked { turning, ledgers } = self;
+        let event = Event::Commit(done.number());
+        let told = turning.commit(alloc, seat.number(), done);
+        let more = tally_of(&event, &told);
+        ledgers.count(seat, more);
+        told
     }
 
     /// Takes the seat's turn, and counts in its book what came of it.
@@ -161,16 +154,11 @@ impl<
     ) -> Turn<SeenJob<S, P>>
         ensures { seat.new ≡ with_more (turn_counted (told_of result)) seat.old }
     {
-        let Locked {
-            turning,
-            ledgers,
-            log,
-        } = self;
+        let Locked { turning, ledgers } = self;
         let told = turning.turn(alloc, seat.number());
-        log.follow(turning.log());
         let more = turn_tally(&told);
         ledgers.count(seat, more);
-        log.give(told)
+        told
     }
 
     /// Gives the run up for want of memory, unless it was given up before.
@@ -190,13 +178,9 @@ impl<
         ensures watched { book_of P.watched seats.items ≡ Some (seat_totals P.watched result.run.log) }
         ensures seated { AreFrom P.seats result.run.log }
     {
-        let Locked {
-            turning,
-            ledgers,
-            log: _,
-        } = self;
+        let Locked { turning, ledgers } = self;
         ledgers.close(seats);
-        turning
+        turning.into_turning()
     }
 }
 
@@ -226,9 +210,8 @@ fn begin<
 {
     let (log, seen) = opened.named::<P>();
     Locked {
-        turning: Turning::new(alloc, board, plan),
+        turning: SeenTurning::new(Turning::new(alloc, board, plan), log, seen),
         ledgers,
-        log: SeenLog::new(log, seen),
     }
 }
 
@@ -364,7 +347,7 @@ impl<
 
     /// How much of the log all seats may have seen, for the frames that one keeps.
     pub fn seen<R: Wait>(&self, rt: &R) -> LogPrefix<P> {
-        self.locked.lock(rt).log.seen.again()
+        self.locked.lock(rt).turning.seen()
     }
 
     /// Gives the run up for want of memory, unless it was given up before: `Turning::give_up` under the lock, so that each later turn is at its end.
@@ -401,7 +384,7 @@ impl<
         seat: &mut Seat<P, E, G, C, J, V, H, D, M>,
         done: SeenDone<S, P>,
     ) -> Reply<S>
-        ensures { seat.new ≡ with_more (counted (Commit done.done.job.number) (reply_of result)) seat.old }
+        ensures { seat.new ≡ with_more (counted (Commit done.job.number) (reply_of result)) seat.old }
     {
         self.locked.lock(rt).commit(alloc, seat, done)
     }

@@ -7,11 +7,13 @@ ghost use Rattle.seats.specs.Counted.{counted, refused_totals, taken_totals};
 ghost use Rattle.seats.specs.Turns.{turn_counted};
 ghost use Rattle.seats.specs.Views.{told_of};
 
+use crate::seen_job::SeenJob;
 use crate::turn::Turn;
 use log_entries::{Event, Refusal};
 use run_paths::Reply;
 use seat_books::Tally;
-use segment::{Job, ScriptName};
+use segment::ScriptName;
+use shared_log::LogName;
 
 fn nothing() -> Tally
     ensures { result ≡ record { events = 0; given = 0; commits = 0; committed = 0 } }
@@ -72,7 +74,7 @@ pub fn tally_of<S: ScriptName>(event: &Event, told: &Reply<S>) -> Tally
 }
 
 /// What a turn adds to its seat's book: an event that was logged counts one, and a job its number.
-pub fn turn_tally<S: ScriptName>(told: &Turn<Job<S>>) -> Tally
+pub fn turn_tally<S: ScriptName, P: LogName>(told: &Turn<SeenJob<S, P>>) -> Tally
     ensures { totals_in result ≡ turn_counted (told_of told.now) }
 {
     match told {

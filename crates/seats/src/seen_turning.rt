@@ -1,0 +1,158 @@
+// A run beside its plan, whose log its seats share.
+
+ghost use Rattle.std.specs.Prelude.{◌≡◌, [], true, None};
+ghost use Rattle.event_log.specs.Books.{totals_of};
+ghost use Rattle.event_log.specs.Entries.{Commit};
+ghost use Rattle.event_log.specs.Laws.{plus};
+ghost use Rattle.log_entries.specs.declared.refusal.Refusal.TheVariants.{NoMemory};
+ghost use Rattle.run_paths.specs.of_protocol_board.Cores.{IsOwn, reply_of};
+ghost use Rattle.seats.specs.Counted.{AddsFrom, counted};
+ghost use Rattle.seats.specs.Ends.{IsOverBeside};
+ghost use Rattle.seats.specs.Outside.{MayApply};
+ghost use Rattle.seats.specs.Seated.{StaysFrom};
+ghost use Rattle.seats.specs.Turns.{TurnGivesOwn, Turned, is_at_end, or_first, turn_counted};
+ghost use Rattle.seats.specs.Views.{told_of};
+
+use crate::run_name::RunName;
+use crate::seen_job::{SeenDone, SeenJob};
+use crate::seen_log::SeenLog;
+use crate::turn::Turn;
+use crate::turning::Turning;
+use log_entries::{Entry, Event};
+use run_paths::Reply;
+use segment::{Done, Job, ScriptName};
+use shared_log::{LogPrefix, SharedLog};
+use std::alloc::Global;
+use std::marker::Model;
+
+/// The run `P` beside its plan, seen as that, and its log as its seats share it.
+#[derive(Drop)]
+pub struct SeenTurning<S: ScriptName, P: RunName> {
+    turning: Turning<S, P>,
+    log: SeenLog<P>,
+}
+
+impl<S: ScriptName, P: RunName> Model for SeenTurning<S, P> {
+    ghost use Rattle.std.specs.Prelude.{◌≡◌, true};
+    ghost use Rattle.std.specs.Coded.{codes};
+    ghost use Rattle.ids.specs.Codes.{id_code};
+    ghost use Rattle.held.specs.Codes.{value_code, outcome_code, birth_code};
+    ghost use Rattle.ids.specs.Codes.{attempt_code};
+    ghost use Rattle.values.specs.FaultCodes.{fault_code};
+    ghost use Rattle.values.specs.contracts.value.RunValue as run_values;
+    ghost use Rattle.seats.specs.Turns.{TurnState};
+
+    ghost Value = { TurnState };
+
+    ghost coded = { Prim.hlevel (codes, run_values.the_row.coded, value_code, outcome_code, birth_code, id_code, attempt_code, fault_code) };
+
+    ghost view = { λ t. t.turning };
+
+    ghost invariant = { λ t. t.log.is_whole ≡ true → t.log.seen ≡ t.turning.run.log };
+}
+
+/// The job that a turn gives out, if it does, as one of a run whose log that is, where it is whole.
+fn give<S: ScriptName, P: RunName>(log: &SeenLog<P>, told: Turn<Job<S>>) -> Turn<SeenJob<S, P>>
+    requires { log.now.is_whole ≡ true → TurnGivesOwn log.now.seen (told_of told) }
+    ensures { told_of result ≡ told_of told }
+{
+    match told {
+        Turn::Job(job) => Turn::Job(SeenJob::new(job, log.seen.again(), log.is_whole)),
+        Turn::Did => Turn::Did,
+        Turn::Refused(refusal) => Turn::Refused(refusal),
+        Turn::Again => Turn::Again,
+        Turn::End => Turn::End,
+    }
+}
+
+impl<S: ScriptName, P: RunName> SeenTurning<S, P> {
+    /// The run, whose log is shared from here on.
+    pub fn new(turning: Turning<S, P>, log: SharedLog<P>, seen: LogPrefix<P>) -> SeenTurning<S, P>
+        requires { seen ≡ [] }
+        ensures { result ≡ turning }
+    {
+        let mut log = SeenLog::new(log, seen);
+        log.follow(turning.log());
+        SeenTurning { turning, log }
+    }
+
+    /// One event: see `Turning::apply`. With `is_own` what was done is done on a job of this run.
+    pub fn apply(
+        &mut self,
+        alloc: Global,
+        event: Event,
+        seat: u8,
+        done: Option<Done<S>>,
+        is_own: bool,
+    ) -> Reply<S>
+        requires may { MayApply P.is_open event done }
+        requires own { is_own ≡ true → IsOwn self.old.run.log done }
+        ensures counted { totals_of self.new.run.log ≡ plus (totals_of self.old.run.log) (counted event (reply_of result)) }
+        ensures watched { AddsFrom P.watched seat (counted event (reply_of result)) self.old.run.log self.new.run.log }
+        ensures seated { StaysFrom seat self.old.run.log self.new.run.log }
+    {
+        let SeenTurning { turning, log } = self;
+        let told = turning.apply_as(alloc, event, seat, done, is_own);
+        log.follow(turning.log());
+        told
+    }
+
+    /// The commit of what was done on a job, whose answers aren't compared where it is known to be the run's own.
+    pub fn commit(&mut self, alloc: Global, seat: u8, done: SeenDone<S, P>) -> Reply<S>
+        ensures counted { totals_of self.new.run.log ≡ plus (totals_of self.old.run.log) (counted (Commit done.job.number) (reply_of result)) }
+        ensures watched { AddsFrom P.watched seat (counted (Commit done.job.number) (reply_of result)) self.old.run.log self.new.run.log }
+        ensures seated { StaysFrom seat self.old.run.log self.new.run.log }
+    {
+        let event = Event::Commit(done.number());
+        let (done, is_own) = done.of(&self.log);
+        self.apply(alloc, event, seat, Some(done), is_own)
+    }
+
+    /// One turn of a seat: see `Turning::turn`.
+    pub fn turn(&mut self, alloc: Global, seat: u8) -> Turn<SeenJob<S, P>>
+        ensures turned { Turned self.old seat self.new (told_of result) }
+        ensures counted { totals_of self.new.run.log ≡ plus (totals_of self.old.run.log) (turn_counted (told_of result)) }
+        ensures watched { AddsFrom P.watched seat (turn_counted (told_of result)) self.old.run.log self.new.run.log }
+        ensures seated { StaysFrom seat self.old.run.log self.new.run.log }
+    {
+        let SeenTurning { turning, log } = self;
+        let told = turning.turn(alloc, seat);
+        log.follow(turning.log());
+        give(log, told)
+    }
+
+    /// Gives the run up for want of memory, unless it was given up before.
+    pub fn give_up(&mut self)
+        ensures { self.new ≡ record self.old { given_up = or_first self.old.given_up NoMemory } }
+    {
+        self.turning.give_up();
+    }
+
+    /// How much of the log was seen.
+    pub fn seen(&self) -> LogPrefix<P> {
+        self.log.seen.again()
+    }
+
+    /// The entries so far, oldest first.
+    pub fn log(&self) -> &[Entry]
+        ensures { result.now ≡ self.now.run.log }
+    {
+        self.turning.log()
+    }
+
+    /// The run alone.
+    pub fn into_turning(self) -> Turning<S, P>
+        ensures { result ≡ self }
+    {
+        let SeenTurning { turning, log: _ } = self;
+        turning
+    }
+
+    /// Whether the run is at its end: see `Turning::is_at_end`.
+    pub fn is_at_end(&self, alloc: Global) -> bool
+        ensures at_end { result ≡ is_at_end self.now }
+        ensures over { result ≡ true → self.now.given_up ≡ None → IsOverBeside S.script P.is_open P.plan P.size self.now.run }
+    {
+        self.turning.is_at_end(alloc)
+    }
+}

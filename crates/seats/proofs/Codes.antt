@@ -1,7 +1,7 @@
 -- What refuses an event before it is tried is logged.
 use Rattle.seats.specs.Counted.{is_logged}
 use Rattle.std.proofs.Common.{◌≡◌, ℕ, true, false, Bool, Option, Some, None, refl, ◌++◌}
-use Rattle.std.specs.Prelude.{nat_lt, not, is_some, ◌&&◌, if◌then◌else◌}
+use Rattle.std.specs.Prelude.{not, is_some, ◌&&◌, if◌then◌else◌}
 use Rattle.std.specs.List.{list_any}
 use Rattle.meaning.specs.Values.{Id}
 use Rattle.event_log.specs.Entries.{Event, Claim, Commit, Deliver, Tick, Notice, NoticeNode, Evict, Lose, Kill, KillNode, Join}

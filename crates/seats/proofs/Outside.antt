@@ -1,5 +1,5 @@
 -- The events from outside in a log, behind each event.
-use Rattle.std.proofs.Common.{◌≡◌, ℕ, true, false, Bool, List, [], ◌∷◌, ◌++◌, Option, Some, None, refl, sym, ap, ◌∙◌, subst, inl, inr}
+use Rattle.std.proofs.Common.{◌≡◌, ◌⊎◌, ℕ, true, false, Bool, List, [], ◌∷◌, ◌++◌, Option, Some, None, refl, sym, ap, ◌∙◌, subst, inl, inr}
 use Rattle.std.specs.Prelude.{if◌then◌else◌, slice_get}
 use Rattle.std.proofs.lemmas.List.{append-nil}
 use Rattle.std.proofs.lemmas.List.Concat.{flat_map-append}
@@ -7,7 +7,7 @@ use Rattle.std.proofs.lemmas.List.Elements.{filter-append}
 use Rattle.segment.specs.Jobs.{Done}
 use Rattle.event_files.specs.declared.plan.PlanLine.{PlanLine}
 use Rattle.event_log.specs.Books.{totals_of}
-use Rattle.event_log.specs.Entries.{Entry, Event, Claim, Commit, Deliver, In, Refused}
+use Rattle.event_log.specs.Entries.{Entry, Event, Claim, Commit, Deliver, Tick, Notice, NoticeNode, Evict, Lose, Kill, KillNode, Join, In, Refused}
 use Rattle.event_log.specs.Entries.{Limit}
 use Rattle.event_log.specs.Legal.{has_event, opening}
 use Rattle.event_log.specs.Words.{came_in, events}
@@ -136,22 +136,22 @@ abbrev IsAllowed : Bool → Event → Type 0
 IsAllowed is_open e = is_outside e ≡ true → is_open ≡ true
 
 -- so is what a call may apply
-may_allowed : (is_open : Bool) (e : Event) (done : Option Done) → MayApply is_open e done → IsAllowed is_open e
-may_allowed is_open (Commit j) done may = λ from_outside. true_or_false false refl from_outside
-may_allowed is_open (Claim w) done may = λ from_outside. may
-may_allowed is_open (Deliver k) done may = λ from_outside. may
-may_allowed is_open (Tick w) done may = λ from_outside. may
-may_allowed is_open (Notice w v) done may = λ from_outside. may
-may_allowed is_open (NoticeNode w n) done may = λ from_outside. may
-may_allowed is_open (Evict n o) done may = λ from_outside. may
-may_allowed is_open (Lose n o) done may = λ from_outside. may
-may_allowed is_open (Kill w) done may = λ from_outside. may
-may_allowed is_open (KillNode n) done may = λ from_outside. may
-may_allowed is_open Join done may = λ from_outside. may
+may_allowed : (is_open : Bool) (e : Event) (handed : Option Done) → MayApply is_open e handed → IsAllowed is_open e
+may_allowed is_open (Commit j) handed may = λ from_outside. true_or_false false refl from_outside
+may_allowed is_open (Claim w) handed may = λ from_outside. may
+may_allowed is_open (Deliver k) handed may = λ from_outside. may
+may_allowed is_open (Tick w) handed may = λ from_outside. may
+may_allowed is_open (Notice w v) handed may = λ from_outside. may
+may_allowed is_open (NoticeNode w n) handed may = λ from_outside. may
+may_allowed is_open (Evict n o) handed may = λ from_outside. may
+may_allowed is_open (Lose n o) handed may = λ from_outside. may
+may_allowed is_open (Kill w) handed may = λ from_outside. may
+may_allowed is_open (KillNode n) handed may = λ from_outside. may
+may_allowed is_open Join handed may = λ from_outside. may
 
 -- and what a turn is to do
-turn_allowed : (is_open : Bool) (t : TurnState) (e : Event) (done : Option Done) → IsTurn t e done → IsAllowed is_open e
-turn_allowed is_open t e done is = λ from_outside. true_or_false (is_outside e) (does_own t e is.0) from_outside
+turn_allowed : (is_open : Bool) (t : TurnState) (e : Event) (handed : Option Done) → IsTurn t e handed → IsAllowed is_open e
+turn_allowed is_open t e handed is = λ from_outside. true_or_false (is_outside e) (does_own t e is.0) from_outside
 
 allowed : (is_open : Bool) (t : TurnState) (e : Event) (done : Option Done) → MayApply is_open e done ⊎ IsTurn t e done → IsAllowed is_open e
 allowed is_open t e done (inl may) = may_allowed is_open e done may

@@ -1,5 +1,5 @@
 -- What is seen of a run's log stays a beginning of it, and what is the run's own by the one is so by the other.
-use Rattle.std.proofs.Common.{◌≡◌, ◌⊎◌, ℕ, List, [], ◌++◌, Option, Some, None, inl, inr, refl, sym, ap, ◌∙◌, subst, append-nil}
+use Rattle.std.proofs.Common.{◌≡◌, ℕ, List, [], ◌++◌, Option, Some, None, inl, inr, refl, sym, ap, ◌∙◌, subst, append-nil}
 use mathlib.Core.List.{IsPrefix}
 use Rattle.event_log.specs.Entries.{Entry, Event}
 use Rattle.kept_frames.specs.Known.{AllAgree, KeepsWith, KnownData}

@@ -1,6 +1,7 @@
 // A run beside its plan, whose log its seats share.
 
 ghost use Rattle.std.specs.Prelude.{◌≡◌, [], true, None};
+ghost use mathlib.Core.List.{IsPrefix};
 ghost use Rattle.event_log.specs.Books.{totals_of};
 ghost use Rattle.event_log.specs.Entries.{Commit};
 ghost use Rattle.event_log.specs.Laws.{plus};
@@ -51,6 +52,14 @@ impl<S: ScriptName, P: RunName> Model for SeenTurning<S, P> {
     ghost invariant = { λ t. t.log.is_whole ≡ true → t.log.seen ≡ t.turning.run.log };
 }
 
+/// The shared log goes on to the run's as it is now.
+fn follow<S: ScriptName, P: RunName>(turning: &Turning<S, P>, log: &mut SeenLog<P>)
+    requires { log.old.is_whole ≡ true → IsPrefix log.old.seen turning.now.run.log }
+    ensures { log.new.is_whole ≡ true → log.new.seen ≡ turning.now.run.log }
+{
+    log.follow(turning.log());
+}
+
 /// The job that a turn gives out, if it does, as one of a run whose log that is, where it is whole.
 fn give<S: ScriptName, P: RunName>(log: &SeenLog<P>, told: Turn<Job<S>>) -> Turn<SeenJob<S, P>>
     requires { log.now.is_whole ≡ true → TurnGivesOwn log.now.seen (told_of told) }
@@ -91,9 +100,8 @@ impl<S: ScriptName, P: RunName> SeenTurning<S, P> {
         ensures watched { AddsFrom P.watched seat (counted event (reply_of result)) self.old.run.log self.new.run.log }
         ensures seated { StaysFrom seat self.old.run.log self.new.run.log }
     {
-        let SeenTurning { turning, log } = self;
-        let told = turning.apply_as(alloc, event, seat, done, is_own);
-        log.follow(turning.log());
+        let told = self.turning.apply_as(alloc, event, seat, done, is_own);
+        follow(&self.turning, &mut self.log);
         told
     }
 
@@ -115,10 +123,9 @@ impl<S: ScriptName, P: RunName> SeenTurning<S, P> {
         ensures watched { AddsFrom P.watched seat (turn_counted (told_of result)) self.old.run.log self.new.run.log }
         ensures seated { StaysFrom seat self.old.run.log self.new.run.log }
     {
-        let SeenTurning { turning, log } = self;
-        let told = turning.turn(alloc, seat);
-        log.follow(turning.log());
-        give(log, told)
+        let told = self.turning.turn(alloc, seat);
+        follow(&self.turning, &mut self.log);
+        give(&self.log, told)
     }
 
     /// Gives the run up for want of memory, unless it was given up before.

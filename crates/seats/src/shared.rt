@@ -139,9 +139,10 @@ impl<
         ensures { seat.new ≡ with_more (counted (Commit done.job.number) (reply_of result)) seat.old }
     {
         let Locked { turning, ledgers } = self;
-        let event = Event::Commit(done.number());
-        let told = turning.commit(alloc, seat.number(), done);
-        let more = tally_of(&event, &told);
+        let job = done.number();
+        let place = seat.number();
+        let told = turning.commit(alloc, place, done);
+        let more = tally_of(&Event::Commit(job), &told);
         ledgers.count(seat, more);
         told
     }

@@ -1,3 +1,4 @@
+use Rattle.std.proofs.Common.{ap, ◌∙◌}
 use Rattle.event_log.specs.Entries.{Commit}
 use Rattle.run_paths.specs.of_protocol_board.Cores.{reply_of}
 use Rattle.seat_books.specs.Tallies.{totals_in}
@@ -12,12 +13,13 @@ invariant_of-self g c =
     let after = c.commit-told.new.self.run.log in
     let adds = counted (Commit c.args.done.job.number) (reply_of c.commit-told.result) in
     let more = totals_in c.tally_of-more.result in
+    let counted_so = c.tally_of-more.ensures ∙ ap (λ j. counted (Commit j) (reply_of c.commit-told.result)) c.number-job.ensures in
     let w = g.P.Watching.watched in
     let seat = c.args.seat.now.number in
     record {
-      all_add_up = all_add before after adds more old.ledgers c.count.new.self w seat c.commit-told.ensures.counted c.tally_of-more.ensures c.count.ensures.ledgers
+      all_add_up = all_add before after adds more old.ledgers c.count.new.self w seat c.commit-told.ensures.counted counted_so c.count.ensures.ledgers
           old.all_add_up;
-      watched_add_up = watched_add before after adds more old.ledgers c.count.new.self w seat c.number.result c.commit-told.ensures.watched c.number.ensures.number
-          c.tally_of-more.ensures c.count.ensures.ledgers old.watched_add_up;
-      seated = c.commit-told.ensures.seated g.P.Watching.seats c.number.ensures.within old.seated;
+      watched_add_up = watched_add before after adds more old.ledgers c.count.new.self w seat c.number-place.result c.commit-told.ensures.watched c.number-place.ensures.number
+          counted_so c.count.ensures.ledgers old.watched_add_up;
+      seated = c.commit-told.ensures.seated g.P.Watching.seats c.number-place.ensures.within old.seated;
     }

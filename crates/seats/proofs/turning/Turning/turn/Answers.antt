@@ -3,4 +3,4 @@ use Rattle.seats.specs.Views.{choice_of}
 use Rattle.seats.proofs.turning.Turning.turn.Goals as goal
 
 pub take-requires : goal.take-requires
-take-requires g c = sym c.in-Ok.ensures ∙ ap choice_of c.in-Does.is
+take-requires g c = record { chosen = sym c.in-Ok.ensures ∙ ap choice_of c.in-Does.is }

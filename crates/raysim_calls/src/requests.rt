@@ -153,22 +153,22 @@ const USUAL: FaultChoice = FaultChoice {
 };
 
 /// The kinds that the words name; else the first that is the name of none.
-fn choice_of<'a>(names: Option<&'a str>) -> Result<FaultChoice, &'a str>
-    ensures chosen { IfOk result (IsChoiceBy (option_map (λ s. s.now) names)) }
-    ensures none { IfErr result (λ word. IsNoKind (option_map (λ s. s.now) names) word.now) }
+fn choice_of<'a>(options: &FaultsOptions<'a>) -> Result<FaultChoice, &'a str>
+    ensures chosen { IfOk result (IsChoiceBy (option_map (λ s. s.now) options.now.of)) }
+    ensures none { IfErr result (λ word. IsNoKind (option_map (λ s. s.now) options.now.of) word.now) }
 {
-    match names {
+    match options.of {
         None => Ok(USUAL),
         Some(text) => choice_named(text),
     }
 }
 
 /// The number of lists that the words say; else what is none.
-fn most_of<'a>(count: Option<&'a str>) -> Result<usize, &'a str>
-    ensures counted { IfOk result (IsMostBy (option_map (λ s. s.now) count)) }
-    ensures none { IfErr result (λ word. IsNoCount (option_map (λ s. s.now) count) word.now) }
+fn most_of<'a>(options: &FaultsOptions<'a>) -> Result<usize, &'a str>
+    ensures counted { IfOk result (IsMostBy (option_map (λ s. s.now) options.now.most)) }
+    ensures none { IfErr result (λ word. IsNoCount (option_map (λ s. s.now) options.now.most) word.now) }
 {
-    let Some(text) = count else {
+    let Some(text) = options.most else {
         return Ok(usize::MAX);
     };
     match text.parse::<usize>() {
@@ -183,11 +183,11 @@ fn faults_call<'a>(options: &FaultsOptions<'a>) -> Result<Call<'a>, CallFault<'a
     ensures at_fault { IfErr result (IsFaultsFault options.now) }
     ensures threads { IfOk result HasThreads }
 {
-    let choice = match choice_of(options.of) {
+    let choice = match choice_of(options) {
         Ok(choice) => choice,
         Err(word) => return Err(CallFault::NoKind(word)),
     };
-    let most = match most_of(options.most) {
+    let most = match most_of(options) {
         Ok(most) => most,
         Err(text) => return Err(CallFault::NoCount(text)),
     };

@@ -104,7 +104,7 @@ LONG = [
     ("sim sq.ray F", GOOD + b"kill 1\n" * 1000, too_long(100000)),
     ("sim sq.ray F", GOOD + b"kill w2\n", b"refused 40 line 100002\n"),
     ("sim sq.ray F", GOOD + b"# none\n\nkill 2", b"refused 40 line 100004\n"),
-    ("migrate sq.ray F", GOOD + b"\n", TOO_LONG),
+    ("migrate sq.ray F", GOOD + b"\n", too_long(100000)),
     ("sim sq.ray F", b"raysim 2\n" + b"0 tick 1\n" * 100001, too_long(100001)),
     ("sim sq.ray F", b"raysim 2\n" + b"0 tick 1\n" * 100001 + b"settle\n", b"refused 40 line 100003\n"),
     ("sim sq.ray F", b"raysim 2\n# none\n0 claim 1 7\n" + b"0 tick 1\n" * 100001, b"refused 42 line 3\n"),

@@ -113,14 +113,15 @@ WORDS = {
     10: "UnknownName: No variable or function of this name is in scope, or main is called. The place is the name.",
     11: "WrongType: An expression has another type than its place asks for. The place is the expression.",
     12: "WrongCount: A call has too many or too few arguments. The place is the function's name in the call.",
-    13: "NoMain: There is no main, or it has parameters, or its result is not int. The place is 0..0.",
+    13: "NoMain: There is no main, or it has parameters, or its result is not int, or it has several results. The place is 0..0.",
     14: "PrintOutsideMain: A function other than main prints. The place is the word print.",
     15: "MissingReturn: A function's body may end without a return. The place is the function's name.",
     16: "BadRetries: A remote call asks for more than 10 retries. The place is the number.",
     17: "Duplicate: A name is given again while it is in scope. The place is the second name.",
     18: "WrongReturns: A call or a return has another number of results than is asked for. The place is the function's name, or the word return.",
     40: "BadLine: A line of an event file or a plan is none of its format, or the last line has no line feed. Lines are counted from 1.",
-    42: "WrongJob: A claim gave another job than the line of a recorded history says. The file was recorded of another run.",
+    42: "WrongJob: A claim gave another job than the line of a recorded history says. The file was recorded of another run. "
+    "Replay it with the script and the cluster that it was recorded of: where it has # lines, they say which.",
 }
 
 # What is said of those texts that look like something that another language has.
@@ -130,8 +131,8 @@ HINTS = {
     "fn main() -> int { if 1 return 1; return 2; }\n": "a statement ends with ;, and the block of an if or a for stands in { }",
     "fn main() -> int {\n    let x = 1;\n    if x == 1:\n        return 2;\n    return x;\n}\n": "a block stands in { } and not behind a :, and a variable's type isn't written: let x = 1;",
     "fn main() -> int { let l = [1]; l.push(3); return 1; }\n": "there are no methods: push(l, 3), len(l)",
-    "fn main() -> int { let l = &1; return 1; }\n": "there is no &: put a makes a reference, and nothing works on bits",
-    "fn main() { return 1; }\n": "a function says of which type its result is, fn f() -> int { }, and a loop has two bounds, for i in 0 .. 10 { }",
+    "fn main() -> int { let l = &1; return 1; }\n": "there is no &: put 1 makes a reference, of the type ref int, and nothing works on bits",
+    "fn main() { return 1; }\n": "a function says of which type its result is: fn f() -> int { }",
     "fn main() -> int { let aB = 1; return 1; }\n": "names have small letters, digits and _ alone",
     "fn main() -> int {\n    let size = 1;\n    print size\n    if 1 { return 2; }\n    return 3;\n}\n":
         "a statement ends with ;, and the block of an if or a for stands in { }",
@@ -148,6 +149,37 @@ HINTS = {
     "fn f(a: []) -> int { return 1; }\n": "a list's type names that of its items: [int]",
     "fn main() -> int { let l = [1, 2 }; return 1; }\n": "a ( or a [ before it is not closed",
     "fn main() -> int { return f(x: 1); }\n": "an argument has no name: f(1)",
+    "fn main() -> int { return 1 | 2; }\n": "there is no ||, no | and no word or: 0 < a + b, where both are 0 or 1",
+    "fn main() -> int { let a = 1; if a and a { return 1; } return 2; }\n":
+        "there is no && and no word and: one if stands inside another, or a * b where both are 0 or 1",
+    "fn main() -> int { let a = 1; if a or a { return 1; } return 2; }\n": "there is no ||, no | and no word or: 0 < a + b, where both are 0 or 1",
+    "fn main() -> int { let a = 1; if not a { return 1; } return 2; }\n": "there is no ! and no word not: not a is a == 0",
+    "fn main() -> int { let a = 1; return not (a); }\n": "there is no ! and no word not: not a is a == 0",
+    "fn main() -> int { for i in 0 .. 3 { break; } return 1; }\n":
+        "there is no break and no continue: a return ends a loop and its function, and an if leaves out a part of a turn",
+    "fn main() -> int { for i in 0 .. 3 { continue; } return 1; }\n":
+        "there is no break and no continue: a return ends a loop and its function, and an if leaves out a part of a turn",
+    "fn main() -> int { let l = [1]; for x in l { print x; } return 1; }\n": "a loop counts from one bound to another: for i in 0 .. len(l) { let x = l[i]; }",
+    "fn main() -> int { for i in range(3) { } return 1; }\n": "a loop counts from one bound to another: for i in 0 .. len(l) { let x = l[i]; }",
+    "fn main() -> int { for (let i = 0; i < 3; i++) { } return 1; }\n": "a loop counts from one bound to another: for i in 0 .. len(l) { let x = l[i]; }",
+    "fn main() -> int { let l = [1]; l[0] = 3; return 1; }\n": "no item of a list can be set: set m = push(m, x); in a loop makes a new list",
+    "fn main() -> int { let l = [1]; set l[0] = 3; return 1; }\n": "no item of a list can be set: set m = push(m, x); in a loop makes a new list",
+    "fn main() -> int { let a = 1; set a += 1; return 1; }\n": "a variable's new value is written whole: set x = x + 1;",
+    "fn main() -> int { let a = 1; set a++; return 1; }\n": "a variable's new value is written whole: set x = x + 1;",
+    "fn main() -> int { let mut x = 1; return 1; }\n": "there is no mut, since every variable can be set: let x = 1; set x = 2;",
+    "fn main() -> int { let t = (1, 2); return 1; }\n":
+        "there are no tuples: [1, 2] is a list, return 1, 2; gives two results, and let a, b = f(); takes them",
+    "fn main() -> int { let (a, b) = f(); return 1; }\n":
+        "there are no tuples: [1, 2] is a list, return 1, 2; gives two results, and let a, b = f(); takes them",
+    "fn f(a: int): int { return a; }\n": "a function says of which type its result is: fn f() -> int { }",
+    "fn main() : int { return 1; }\n": "a function says of which type its result is: fn f() -> int { }",
+    "fn f(a: &int) -> int { return 1; }\n": "there is no &: put 1 makes a reference, of the type ref int, and nothing works on bits",
+    "fn main() -> int { let l = [x for x in l]; return 1; }\n":
+        "a [ before it is not closed, and no for stands in a list: set l = push(l, x); in a loop makes one",
+    "fn main() -> int { for i in 0 .. f(1 { } return 1; }\n": "a ( or a [ before it is not closed",
+    "fn main() -> int { return -9223372036854775808; }\n": "the least number is written -9223372036854775807 - 1",
+    "fn main() -> int { remote f(1); return 1; }\n": "a value alone is no statement: let r = remote f(); let x = get r;",
+    "fn main() -> int { let l = [1]; push(l, 3); return 1; }\n": "push gives a new list: set l = push(l, 3);",
 }
 
 OPERATORS = "[ * / % + - == != < <="
@@ -195,6 +227,34 @@ SCRIPTS = [
     (3, "fn f(a: []) -> int { return 1; }\n", "]) ->", 1, ["expected one of: int [ ref", "found: ]"]),
     (3, "fn main() -> int { let l = [1, 2 }; return 1; }\n", "}; r", 1, [f"expected one of: {OPERATORS} , ]", "found: }"]),
     (3, "fn main() -> int { return f(x: 1); }\n", ": 1", 1, [f"expected one of: ( {OPERATORS} , )", "found: :"]),
+    (2, "fn main() -> int { return 1 | 2; }\n", "|", 1, ["found: |, the byte 124, which begins no token here"]),
+    (3, "fn main() -> int { let a = 1; if a and a { return 1; } return 2; }\n", "and", 3, [f"expected one of: ( {OPERATORS} {{", "found: and"]),
+    (3, "fn main() -> int { let a = 1; if a or a { return 1; } return 2; }\n", "or", 2, [f"expected one of: ( {OPERATORS} {{", "found: or"]),
+    (3, "fn main() -> int { let a = 1; if not a { return 1; } return 2; }\n", "a {", 1, [f"expected one of: ( {OPERATORS} {{", "found: a"]),
+    (10, "fn main() -> int { let a = 1; return not (a); }\n", "not", 3, []),
+    (3, "fn main() -> int { for i in 0 .. 3 { break; } return 1; }\n", "break", 5, ["expected one of: let set if for print return }", "found: break"]),
+    (3, "fn main() -> int { for i in 0 .. 3 { continue; } return 1; }\n", "continue", 8,
+     ["expected one of: let set if for print return }", "found: continue"]),
+    (3, "fn main() -> int { let l = [1]; for x in l { print x; } return 1; }\n", "{ print", 1, [f"expected one of: ( {OPERATORS} ..", "found: {"]),
+    (3, "fn main() -> int { for i in range(3) { } return 1; }\n", "{ }", 1, [f"expected one of: {OPERATORS} ..", "found: {"]),
+    (3, "fn main() -> int { for (let i = 0; i < 3; i++) { } return 1; }\n", "(let", 1, ["expected: NAME", "found: ("]),
+    (3, "fn main() -> int { let l = [1]; l[0] = 3; return 1; }\n", "l[0]", 1, ["expected one of: let set if for print return }", "found: l"]),
+    (3, "fn main() -> int { let l = [1]; set l[0] = 3; return 1; }\n", "[0]", 1, ["expected: =", "found: ["]),
+    (3, "fn main() -> int { let a = 1; set a += 1; return 1; }\n", "+", 1, ["expected: =", "found: +"]),
+    (3, "fn main() -> int { let a = 1; set a++; return 1; }\n", "++", 1, ["expected: =", "found: +"]),
+    (3, "fn main() -> int { let mut x = 1; return 1; }\n", "x =", 1, ["expected one of: = ,", "found: x"]),
+    (3, "fn main() -> int { let t = (1, 2); return 1; }\n", ", 2", 1, [f"expected one of: {OPERATORS} )", "found: ,"]),
+    (3, "fn main() -> int { let (a, b) = f(); return 1; }\n", "(a", 1, ["expected: NAME", "found: ("]),
+    (3, "fn main() -> int { let x = len(1, 2); return 1; }\n", ", 2", 1, [f"expected one of: {OPERATORS} )", "found: ,"]),
+    (3, "fn f(a: int): int { return a; }\n", ": int {", 1, ["expected: ->", "found: :"]),
+    (3, "fn main() : int { return 1; }\n", ": int", 1, ["expected: ->", "found: :"]),
+    (2, "fn f(a: &int) -> int { return 1; }\n", "&", 1, ["found: &, the byte 38, which begins no token here"]),
+    (3, "fn main() -> int { let l = [x for x in l]; return 1; }\n", "for", 3, [f"expected one of: ( {OPERATORS} , ]", "found: for"]),
+    (3, "fn main() -> int { for i in 0 .. f(1 { } return 1; }\n", "{ }", 1, [f"expected one of: {OPERATORS} , )", "found: {"]),
+    (2, "fn main() -> int { return -9223372036854775808; }\n", "9223372036854775808", 19,
+     ["expected: a number is at most 9223372036854775807, and no letter and no _ follows it directly", "found: 9223372036854775808"]),
+    (3, "fn main() -> int { remote f(1); return 1; }\n", "remote", 6, ["expected one of: let set if for print return }", "found: remote"]),
+    (3, "fn main() -> int { let l = [1]; push(l, 3); return 1; }\n", "push", 4, ["expected one of: let set if for print return }", "found: push"]),
     (4, "fn main() -> int { return " + "(" * 40 + "1" + ")" * 40 + "; }\n", "(" * 9 + "1", 1,
      ["expected: 32 brackets and prefixes open at one place at most", "found: one more"]),
     (4, "fn f(" + ", ".join(f"p{it}: int" for it in range(17)) + ") -> int { return 1; }\n", "p16", 3,
@@ -516,6 +576,11 @@ def try_explanations(trial):
         told += "".join(f"    {it}\n" for it in [WORDS[code], *lines])
         trial.run("check bad.ray --explain", 1, told)
         trial.run("sim bad.ray settle.ev --explain", 1, told)
+    marked = "refused 1 at 0..1\nbad.ray:1:1\n    ???fn main() -> int { return 1; }\n    ^\n"
+    marked += "    hint: a byte order mark stands before the script: save the file without one\n"
+    marked += f"    {WORDS[1]}\n    expected: bytes up to 127\n    found: the byte 239\n"
+    FILES["bad.ray"] = b"\xef\xbb\xbffn main() -> int { return 1; }\n"
+    trial.run("check bad.ray --explain", 1, marked)
     # (a tab is shown as a space, so that the caret stands below its place)
     FILES["bad.ray"] = b"fn main() -> int {\n\treturn y;\n}\n"
     tabbed = "refused 10 at 27..28\nbad.ray:2:9\n     return y;\n            ^\n    name: y\n" + f"    {WORDS[10]}\n"
@@ -836,7 +901,15 @@ def try_names(trial):
     reason += b"Example: claim 7 in a run with two workers\n"
     for word in ["30", "NoWorker", "noworker"]:
         trial.run(f"explain {word}", 0, report=reason)
-    limits = b"41 TooLong\nMore than 100,000 events would be applied. A replay that meets it ends with no report, unless --so-far asks for the one up to there.\nExample: a file of 100,001 lines join\n"
+    no_main = b"13 NoMain\nThere is no main, or it has parameters, or its result is not int, or it has several results. The place is 0..0.\n"
+    trial.run("explain 13", 0, report=no_main + b"Example: an empty script\n")
+    memory = b"39 NoMemory\nThere was no memory. A command then gives no report; the log of a run stays legal. "
+    memory += b"Take a smaller script, fewer events, or a machine with more memory.\nExample: a very large list on a small machine\n"
+    trial.run("explain 39", 0, report=memory)
+    another = f"42 {WORDS[42].replace(': ', chr(10), 1)}\n".encode()
+    trial.run("explain 42", 0, report=another + b"Example: 0 claim 1 2 as the first claim of a file of format 2, since it gives job 1\n")
+    limits = b"41 TooLong\nMore than 100,000 events would be applied. A replay that meets it ends with no report. "
+    limits += b"Take fewer events, or ask for the report up to there by --so-far.\nExample: a file of 100,001 lines join\n"
     limits += b"Limits: 100,000 events, those of settle lines counted; 262,144 lines of a plan that say something; "
     limits += b"1,048,576 bytes of settle lines in all, their line feeds not counted\n"
     trial.run("explain 41", 0, report=limits)

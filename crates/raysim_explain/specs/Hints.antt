@@ -1,11 +1,12 @@
 -- What somebody who writes other languages may have meant: read off the token at fault and the bytes around it.
-use Rattle.std.specs.Prelude.{Bool, List, None, Option, Some, [], codes, drop, if◌then◌else◌, nat_eq, nat_lt, not, slice_get, take, true, ℕ, ◌%◌, ◌&&◌, ◌+◌, ◌-◌, ◌||◌, ◌∷◌, length, fold}
+use Rattle.std.specs.Prelude.{Bool, List, None, Option, Some, [], codes, drop, false, if◌then◌else◌, nat_eq, nat_lt, not, slice_get, take, true, ℕ, ◌%◌, ◌&&◌, ◌+◌, ◌-◌, ◌||◌, ◌∷◌, length, fold}
 use Rattle.std.specs.Option.{unwrap_or}
 use Rattle.std.specs.Str.{bytes_eq}
 use Rattle.raysim_explain.specs.declared.hint.Hint.{Hint}
 use Rattle.raysim_explain.specs.declared.hint.Hint.TheVariants.{Greater, AtLeast, And, Ampersand, Or, Not, Text, Fraction, Method, CapitalLetter, SlashComment, While}
 use Rattle.raysim_explain.specs.declared.hint.Hint.TheVariants.{ElseIf, Assignment, Statement, LoneCall, EmptyList, LastComma, Colon, NoResult, Truth, Semicolon}
-use Rattle.raysim_explain.specs.declared.hint.Hint.TheVariants.{ListType, Index, Unclosed, NamedArgument, Reserved, Function}
+use Rattle.raysim_explain.specs.declared.hint.Hint.TheVariants.{ListType, Index, Unclosed, NamedArgument, Reserved, Function, Bounds, LonePush, LoneValue}
+use Rattle.raysim_explain.specs.declared.hint.Hint.TheVariants.{Break, Item, Sum, Mutable, Tuple, ListLoop, ByteOrderMark, LeastNumber}
 
 -- the byte at a place, and 0 where there is none
 abbrev pub byte_at : List ℕ → ℕ → ℕ
@@ -41,6 +42,16 @@ sign_hint first second =
     else if nat_eq first 34 || nat_eq first 39 then Some Text
     else if nat_eq first 46 then (if is_letter second then Some Method else Some Fraction)
     else if nat_lt 64 first && nat_lt first 91 then Some CapitalLetter
+    else None
+
+-- of bytes that are no token, with the byte right behind the first one: the least number's digits, or a sign
+abbrev pub run_hint : List ℕ → ℕ → Option Hint
+run_hint token second = if bytes_eq token (codes "9223372036854775808") then Some LeastNumber else sign_hint (byte_at token 0) second
+
+-- of a byte above 127, at that place: EF BB BF at the text's start
+abbrev pub mark_hint : List ℕ → ℕ → Option Hint
+mark_hint text place =
+    if nat_eq place 0 && (nat_eq (byte_at text 0) 239 && (nat_eq (byte_at text 1) 187 && nat_eq (byte_at text 2) 191)) then Some ByteOrderMark
     else None
 
 -- a statement may begin behind { } ;
@@ -87,6 +98,21 @@ word_step word count b =
 -- it ends with exactly that word, and blanks or a [ behind it
 abbrev pub is_behind : List ℕ → List ℕ → Bool
 is_behind text word = nat_eq (fold (word_step word) 0 text) (length word)
+
+-- how many bytes of a word stand behind one byte more, as in word_step: 100 where the statement has had that word, and 98 in a comment
+abbrev pub has_step : List ℕ → ℕ → ℕ → ℕ
+has_step word count b =
+    if nat_eq count 98 then (if nat_eq b 10 then 0 else 98)
+    else if is_statement_begun b then 0
+    else if nat_eq count 100 then 100
+    else if nat_eq b 35 then 98
+    else if not (is_in_word b) then (if nat_eq count (length word) then 100 else 0)
+    else if nat_lt count (length word) && nat_eq (byte_at word count) b then count + 1
+    else 99
+
+-- a word stands in the statement, or the head of a function, with which a text ends
+abbrev pub has_word : List ℕ → List ℕ → Bool
+has_word text word = nat_eq (fold (has_step word) 0 text) 100
 
 -- how many brackets of a kind are open behind one byte more; none is behind a brace or a ;
 abbrev pub open_step : ℕ → ℕ → ℕ → ℕ → ℕ
@@ -143,9 +169,21 @@ bracket_hint front =
     else if nat_eq (bracket_kind front) 3 && not (is_value_wanted front) then Some Index
     else Some EmptyList
 
--- of a :, with the text before it
-abbrev pub colon_hint : List ℕ → Option Hint
-colon_hint front = if is_within front 91 93 then None else if is_within front 40 41 then Some NamedArgument else Some Colon
+-- of a :, with the text before it and the last byte of that
+abbrev pub colon_hint : List ℕ → ℕ → Option Hint
+colon_hint front before =
+    if is_within front 91 93 then None
+    else if is_within front 40 41 then Some NamedArgument
+    else if nat_eq before 41 && has_word front (codes "fn") then Some NoResult
+    else Some Colon
+
+-- of a {, with the text before it and the last byte of that
+abbrev pub brace_hint : List ℕ → ℕ → Option Hint
+brace_hint front before =
+    if is_within front 40 41 || is_within front 91 93 then Some Unclosed
+    else if has_word front (codes "in") then Some Bounds
+    else if nat_eq before 41 then Some NoResult
+    else None
 
 -- a word of the language
 abbrev pub is_reserved : List ℕ → Bool
@@ -162,12 +200,53 @@ is_name_wanted front before =
     else if is_behind front (codes "fn") || is_behind front (codes "let") then true
     else is_behind front (codes "set") || is_behind front (codes "for")
 
+-- of a token at which a statement was to begin, with the byte behind it
+abbrev pub inner_hint : List ℕ → ℕ → Option Hint
+inner_hint token behind =
+    if (nat_eq behind 59 || nat_eq behind 125) && (bytes_eq token (codes "break") || bytes_eq token (codes "continue")) then Some Break
+    else if bytes_eq token (codes "remote") || (bytes_eq token (codes "get") || bytes_eq token (codes "put")) then Some LoneValue
+    else if bytes_eq token (codes "push") && nat_eq behind 40 then Some LonePush
+    else if nat_eq behind 91 && (is_letter (byte_at token 0) && not (is_reserved token)) then Some Item
+    else statement_hint behind
+
 -- of a token at which a function or a statement was to begin, with the text before it and the byte behind it
 abbrev pub begun_hint : List ℕ → List ℕ → ℕ → Option Hint
 begun_hint token front behind =
-    if not (is_outside front) then statement_hint behind
+    if not (is_outside front) then inner_hint token behind
     else if is_letter (byte_at token 0) && not (nat_eq behind 0) then Some Function
     else None
+
+-- a , inside brackets is that of a tuple: it is in no call of len or push, and in no head of a function
+abbrev pub is_tuple : List ℕ → ℕ → Bool
+is_tuple front before =
+    if not (is_value_end before) || not (is_within front 40 41) then false
+    else if has_word front (codes "len") || has_word front (codes "push") then false
+    else not (has_word front (codes "fn"))
+
+-- of a token behind a set, with the byte behind it
+abbrev pub set_hint : List ℕ → List ℕ → ℕ → Option Hint
+set_hint token front behind =
+    if not (has_word front (codes "set")) || is_behind front (codes "set") then None
+    else if bytes_eq token (codes "[") then Some Item
+    else if is_sum_sign (byte_at token 0) && (nat_eq behind 61 || nat_eq behind (byte_at token 0)) then Some Sum
+    else None
+
+-- of a token behind a word that other languages have there, of such a word, or of a token behind a set
+abbrev pub word_hint : List ℕ → List ℕ → ℕ → Option Hint
+word_hint token front behind =
+    if bytes_eq token (codes "and") then Some And
+    else if bytes_eq token (codes "or") then Some Or
+    else if is_in_word (byte_at token 0) && is_behind front (codes "not") then Some Not
+    else if is_in_word (byte_at token 0) && is_behind front (codes "mut") then Some Mutable
+    else set_hint token front behind
+
+-- of a token that stands inside a statement, where no semicolon is missing
+abbrev pub place_hint : List ℕ → List ℕ → ℕ → ℕ → Option Hint
+place_hint token front before behind =
+    if bytes_eq token (codes "(") && is_behind front (codes "for") then Some Bounds
+    else if bytes_eq token (codes "(") && is_behind front (codes "let") then Some Tuple
+    else if bytes_eq token (codes ",") && is_tuple front before then Some Tuple
+    else word_hint token front behind
 
 -- of a token that the grammar does not allow there, with the text before it and the bytes before and behind it that are no blanks
 abbrev pub token_hint : List ℕ → List ℕ → ℕ → ℕ → Option Hint
@@ -175,19 +254,23 @@ token_hint token front before behind =
     if bytes_eq token (codes "while") then Some While
     else if bytes_eq token (codes "if") && is_behind front (codes "else") then Some ElseIf
     else if bytes_eq token (codes "/") && nat_eq behind 47 then Some SlashComment
-    else if bytes_eq token (codes ":") then colon_hint front
-    else if bytes_eq token (codes "{") && nat_eq before 41 then Some NoResult
+    else if bytes_eq token (codes ":") then colon_hint front before
+    else if bytes_eq token (codes "{") then brace_hint front before
     else if bytes_eq token (codes "]") && nat_eq before 91 then bracket_hint front
     else if nat_eq before 44 && (bytes_eq token (codes "]") || bytes_eq token (codes ")")) then Some LastComma
+    else if bytes_eq token (codes "for") && is_within front 91 93 then Some ListLoop
     else if is_reserved token && is_name_wanted front before then Some Reserved
     else if nat_eq before 0 || is_statement_begun before then begun_hint token front behind
-    else if not (lacks_semicolon token before) then None
+    else if not (lacks_semicolon token before) then place_hint token front before behind
     else if is_within front 91 93 || is_within front 40 41 then Some Unclosed
     else Some Semicolon
 
 -- of a name that is not in scope
 abbrev pub name_hint : List ℕ → Option Hint
-name_hint name = if bytes_eq name (codes "true") || bytes_eq name (codes "false") then Some Truth else None
+name_hint name =
+    if bytes_eq name (codes "true") || bytes_eq name (codes "false") then Some Truth
+    else if bytes_eq name (codes "not") then Some Not
+    else None
 
 -- the bytes of a span
 abbrev pub span_bytes : List ℕ → ℕ → ℕ → List ℕ
@@ -196,7 +279,8 @@ span_bytes text start end = take (end - start) (drop start text)
 -- of a span that is refused with that number
 abbrev pub hint_at : ℕ → List ℕ → ℕ → ℕ → Option Hint
 hint_at code text start end =
-    if nat_eq code 2 then sign_hint (byte_at text start) (byte_at text (start + 1))
+    if nat_eq code 1 then mark_hint text start
+    else if nat_eq code 2 then run_hint (span_bytes text start end) (byte_at text (start + 1))
     else if nat_eq code 3 then token_hint (span_bytes text start end) (take start text) (byte_before (take start text)) (byte_behind (drop end text))
     else if nat_eq code 10 then name_hint (span_bytes text start end)
     else None
@@ -208,10 +292,10 @@ hint_of code text start end = if nat_lt (length text) end || nat_lt end start th
 abbrev pub hint_words : Hint → List ℕ
 hint_words Greater = codes "there is no >: a > b is b < a"
 hint_words AtLeast = codes "there is no >=: a >= b is b <= a"
-hint_words And = codes "there is no &&: one if stands inside another, or a * b where both are 0 or 1"
-hint_words Ampersand = codes "there is no &: put a makes a reference, and nothing works on bits"
-hint_words Or = codes "there is no ||: 0 < a + b, where both are 0 or 1"
-hint_words Not = codes "there is no !: not a is a == 0"
+hint_words And = codes "there is no && and no word and: one if stands inside another, or a * b where both are 0 or 1"
+hint_words Ampersand = codes "there is no &: put 1 makes a reference, of the type ref int, and nothing works on bits"
+hint_words Or = codes "there is no ||, no | and no word or: 0 < a + b, where both are 0 or 1"
+hint_words Not = codes "there is no ! and no word not: not a is a == 0"
 hint_words Text = codes "there are no texts: values are numbers, lists and references"
 hint_words Fraction = codes "there are no fractions, and .. stands between the bounds of a loop"
 hint_words Method = codes "there are no methods: push(l, 3), len(l)"
@@ -222,15 +306,26 @@ hint_words ElseIf = codes "there is no else if: else { if a { } }"
 hint_words Assignment = codes "a variable gets another value by set: set x = 2;"
 hint_words Statement = codes "a statement begins with let, set, if, for, print or return: set x = x + 1;"
 hint_words LoneCall = codes "a call alone is no statement: let unused = f();"
+hint_words LonePush = codes "push gives a new list: set l = push(l, 3);"
+hint_words LoneValue = codes "a value alone is no statement: let r = remote f(); let x = get r;"
+hint_words Break = codes "there is no break and no continue: a return ends a loop and its function, and an if leaves out a part of a turn"
+hint_words Item = codes "no item of a list can be set: set m = push(m, x); in a loop makes a new list"
+hint_words Sum = codes "a variable's new value is written whole: set x = x + 1;"
+hint_words Mutable = codes "there is no mut, since every variable can be set: let x = 1; set x = 2;"
+hint_words Tuple = codes "there are no tuples: [1, 2] is a list, return 1, 2; gives two results, and let a, b = f(); takes them"
+hint_words ListLoop = codes "a [ before it is not closed, and no for stands in a list: set l = push(l, x); in a loop makes one"
 hint_words EmptyList = codes "an empty list says of which type its items are: empty int"
 hint_words ListType = codes "a list's type names that of its items: [int]"
 hint_words Index = codes "an index stands between the brackets: l[0]"
 hint_words LastComma = codes "no comma stands behind the last one"
 hint_words Colon = codes "a block stands in { } and not behind a :, and a variable's type isn't written: let x = 1;"
-hint_words NoResult = codes "a function says of which type its result is, fn f() -> int { }, and a loop has two bounds, for i in 0 .. 10 { }"
+hint_words NoResult = codes "a function says of which type its result is: fn f() -> int { }"
+hint_words Bounds = codes "a loop counts from one bound to another: for i in 0 .. len(l) { let x = l[i]; }"
 hint_words Truth = codes "there are no truth values: 1 and 0 stand for them"
 hint_words Semicolon = codes "a statement ends with ;, and the block of an if or a for stands in { }"
 hint_words Unclosed = codes "a ( or a [ before it is not closed"
 hint_words NamedArgument = codes "an argument has no name: f(1)"
 hint_words Reserved = codes "this is a word of the language, and can't be a name"
 hint_words Function = codes "a function begins with fn, and every statement stands in one"
+hint_words ByteOrderMark = codes "a byte order mark stands before the script: save the file without one"
+hint_words LeastNumber = codes "the least number is written -9223372036854775807 - 1"

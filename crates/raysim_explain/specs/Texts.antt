@@ -76,7 +76,7 @@ cause_of TooLarge = codes "A limit is passed: bytes (the place is 0..0), functio
 cause_of UnknownName = codes "No variable or function of this name is in scope, or main is called. The place is the name."
 cause_of WrongType = codes "An expression has another type than its place asks for. The place is the expression."
 cause_of WrongCount = codes "A call has too many or too few arguments. The place is the function's name in the call."
-cause_of NoMain = codes "There is no main, or it has parameters, or its result is not int. The place is 0..0."
+cause_of NoMain = codes "There is no main, or it has parameters, or its result is not int, or it has several results. The place is 0..0."
 cause_of PrintOutsideMain = codes "A function other than main prints. The place is the word print."
 cause_of MissingReturn = codes "A function's body may end without a return. The place is the function's name."
 cause_of BadRetries = codes "A remote call asks for more than 10 retries. The place is the number."
@@ -91,12 +91,20 @@ cause_of Stale = codes "A commit of a job whose worker is dead."
 cause_of NoMessage = codes "No message has this number."
 cause_of NotDead = codes "A notice of the death of a worker or node that lives or never was."
 cause_of NoNode = codes "The node that an event names does not live."
-cause_of Limit = codes "The event would make object 1,000,001, worker 1,025 or node 65. A run that meets it ends with no report, unless --so-far asks for the one up to there; a replay goes on behind it."
+cause_of Limit =
+    codes "The event would make object 1,000,001, worker 1,025 or node 65. "
+    ++ codes "A run that meets it ends with no report, unless --so-far asks for the one up to there; a replay goes on behind it."
 cause_of Halted = codes "An earlier event found no memory (39), so no further event is taken."
-cause_of NoMemory = codes "There was no memory. A command then gives no report; the log of a run stays legal."
+cause_of NoMemory =
+    codes "There was no memory. A command then gives no report; the log of a run stays legal. "
+    ++ codes "Take a smaller script, fewer events, or a machine with more memory."
 cause_of BadLine = codes "A line of an event file or a plan is none of its format, or the last line has no line feed. Lines are counted from 1."
-cause_of TooLong = codes "More than 100,000 events would be applied. A replay that meets it ends with no report, unless --so-far asks for the one up to there."
-cause_of WrongJob = codes "A claim gave another job than the line of a recorded history says. The file was recorded of another run."
+cause_of TooLong =
+    codes "More than 100,000 events would be applied. A replay that meets it ends with no report. "
+    ++ codes "Take fewer events, or ask for the report up to there by --so-far."
+cause_of WrongJob =
+    codes "A claim gave another job than the line of a recorded history says. The file was recorded of another run. "
+    ++ codes "Replay it with the script and the cluster that it was recorded of: where it has # lines, they say which."
 cause_of Failed = codes "A read or a write failed. After a failed write of the report a beginning of it may be out."
 
 abbrev pub example_of : RefusalCause → List ℕ

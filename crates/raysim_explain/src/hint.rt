@@ -1,11 +1,11 @@
 // What somebody who writes other languages may have meant. docs/refusals.md has the same in a table.
 
 ghost use Rattle.std.specs.Prelude.{◌≡◌};
-ghost use Rattle.raysim_explain.specs.Hints.{begun_hint, brace_step, bracket_hint, bracket_kind, bracket_step, byte_at, byte_before, byte_behind};
-ghost use Rattle.raysim_explain.specs.Hints.{colon_hint, hint_of, hint_words, is_behind, is_blank, is_in_word, is_letter, is_name_wanted, is_outside};
-ghost use Rattle.raysim_explain.specs.Hints.{is_reserved, is_statement_begun, is_statement_word, is_sum_sign, is_type_wanted, is_value_end};
-ghost use Rattle.raysim_explain.specs.Hints.{is_value_wanted, is_within, lacks_semicolon, name_hint, open_step, sign_hint, statement_hint};
-ghost use Rattle.raysim_explain.specs.Hints.{token_hint, word_step};
+ghost use Rattle.raysim_explain.specs.Hints.{begun_hint, brace_hint, brace_step, bracket_hint, bracket_kind, bracket_step, byte_at, byte_before, byte_behind};
+ghost use Rattle.raysim_explain.specs.Hints.{colon_hint, has_step, has_word, hint_of, hint_words, inner_hint, is_behind, is_blank, is_in_word, is_letter};
+ghost use Rattle.raysim_explain.specs.Hints.{is_name_wanted, is_outside, is_reserved, is_statement_begun, is_statement_word, is_sum_sign, is_tuple};
+ghost use Rattle.raysim_explain.specs.Hints.{is_type_wanted, is_value_end, is_value_wanted, is_within, lacks_semicolon, mark_hint, name_hint, open_step};
+ghost use Rattle.raysim_explain.specs.Hints.{place_hint, run_hint, set_hint, sign_hint, statement_hint, token_hint, word_hint, word_step};
 
 use std::fmt;
 
@@ -16,13 +16,13 @@ pub enum Hint {
     Greater,
     /// `>=`
     AtLeast,
-    /// `&&`
+    /// `&&` or `and`
     And,
     /// `&` alone
     Ampersand,
-    /// Or, by `|`
+    /// `||`, `|` or `or`
     Or,
-    /// `!`
+    /// `!` or `not`
     Not,
     /// A text in quotes.
     Text,
@@ -44,6 +44,22 @@ pub enum Hint {
     Statement,
     /// A call alone as a statement.
     LoneCall,
+    /// A `push` alone as a statement.
+    LonePush,
+    /// A value alone as a statement, as `remote f();` or `get r;`.
+    LoneValue,
+    /// `break` or `continue`
+    Break,
+    /// A new item of a list, as `l[0] = 3;`.
+    Item,
+    /// `set x += 1;` or `set x++;`
+    Sum,
+    /// `let mut x = 1;`
+    Mutable,
+    /// A tuple, as `(1, 2)`.
+    Tuple,
+    /// A `for` inside a list.
+    ListLoop,
     /// `[]` as a value.
     EmptyList,
     /// `[]` where a type stands.
@@ -54,8 +70,10 @@ pub enum Hint {
     LastComma,
     /// A colon before a block or a variable's type.
     Colon,
-    /// A function without a result's type, or a loop without bounds.
+    /// A function without a result's type, or with it behind a colon.
     NoResult,
+    /// A loop without bounds, as `for x in l { }`.
+    Bounds,
     /// `true` or `false`
     Truth,
     /// A `;` that is missing, or a block without braces.
@@ -68,6 +86,10 @@ pub enum Hint {
     Reserved,
     /// A function without `fn`, or a statement in none.
     Function,
+    /// A byte order mark, at the text's start.
+    ByteOrderMark,
+    /// The least number, written with its digits.
+    LeastNumber,
 }
 
 /// The byte at a place, and 0 where the text has none there.
@@ -139,6 +161,26 @@ fn sign_hint(first: u8, second: u8) -> Option<Hint>
         b'A'..=b'Z' => Some(Hint::CapitalLetter),
         _ => None,
     }
+}
+
+/// Of bytes that are no token, with the byte right behind the first one.
+fn run_hint(token: &[u8], second: u8) -> Option<Hint>
+    ensures { result ≡ run_hint token.now second }
+{
+    if token == b"9223372036854775808".as_slice() {
+        return Some(Hint::LeastNumber);
+    }
+    sign_hint(byte_at(token, 0), second)
+}
+
+/// Of a byte above 127, at that place of the text.
+fn mark_hint(text: &[u8], place: usize) -> Option<Hint>
+    ensures { result ≡ mark_hint text.now place }
+{
+    if place == 0 && byte_at(text, 0) == 239 && byte_at(text, 1) == 187 && byte_at(text, 2) == 191 {
+        return Some(Hint::ByteOrderMark);
+    }
+    None
 }
 
 /// Whether it is a sign of arithmetic, which stands before `=` in other languages.
@@ -237,6 +279,43 @@ fn is_behind(text: &[u8], word: &[u8]) -> bool
         count = word_step(word, count, *byte);
     }
     count == word.len()
+}
+
+/// How many bytes of a word stand behind one byte more, as in `word_step`: 100 where the statement has had that word, and 98 in a comment.
+fn has_step(word: &[u8], count: usize, byte: u8) -> usize
+    ensures { result ≡ has_step word.now count byte }
+{
+    if count == 98 {
+        return if byte == b'\n' { 0 } else { 98 };
+    }
+    if is_statement_begun(byte) {
+        return 0;
+    }
+    if count == 100 {
+        return 100;
+    }
+    if byte == b'#' {
+        return 98;
+    }
+    if !is_in_word(byte) {
+        return if count == word.len() { 100 } else { 0 };
+    }
+    if count < word.len() && byte_at(word, count) == byte {
+        count + 1
+    } else {
+        99
+    }
+}
+
+/// Whether a word stands in the statement, or the head of a function, with which a text ends.
+fn has_word(text: &[u8], word: &[u8]) -> bool
+    ensures { result ≡ has_word text.now word.now }
+{
+    let mut count = 0;
+    for byte in text {
+        count = has_step(word, count, *byte);
+    }
+    count == 100
 }
 
 /// How many brackets of a kind are open behind one byte more. None is behind a brace or a `;`.
@@ -356,9 +435,9 @@ fn bracket_hint(front: &[u8]) -> Option<Hint>
     Some(Hint::EmptyList)
 }
 
-/// Of a `:`, with the text before it.
-fn colon_hint(front: &[u8]) -> Option<Hint>
-    ensures { result ≡ colon_hint front.now }
+/// Of a `:`, with the text before it and the last byte of that.
+fn colon_hint(front: &[u8], before: u8) -> Option<Hint>
+    ensures { result ≡ colon_hint front.now before }
 {
     if is_within(front, b'[', b']') {
         return None;
@@ -366,7 +445,26 @@ fn colon_hint(front: &[u8]) -> Option<Hint>
     if is_within(front, b'(', b')') {
         return Some(Hint::NamedArgument);
     }
+    if before == b')' && has_word(front, b"fn".as_slice()) {
+        return Some(Hint::NoResult);
+    }
     Some(Hint::Colon)
+}
+
+/// Of a `{`, with the text before it and the last byte of that.
+fn brace_hint(front: &[u8], before: u8) -> Option<Hint>
+    ensures { result ≡ brace_hint front.now before }
+{
+    if is_within(front, b'(', b')') || is_within(front, b'[', b']') {
+        return Some(Hint::Unclosed);
+    }
+    if has_word(front, b"in".as_slice()) {
+        return Some(Hint::Bounds);
+    }
+    if before == b')' {
+        return Some(Hint::NoResult);
+    }
+    None
 }
 
 /// Whether it is a word of the language.
@@ -398,17 +496,102 @@ fn is_name_wanted(front: &[u8], before: u8) -> bool
     is_behind(front, b"set".as_slice()) || is_behind(front, b"for".as_slice())
 }
 
+/// Of a token at which a statement was to begin, with the byte behind it.
+fn inner_hint(token: &[u8], behind: u8) -> Option<Hint>
+    ensures { result ≡ inner_hint token.now behind }
+{
+    if behind == b';' || behind == b'}' {
+        if token == b"break".as_slice() || token == b"continue".as_slice() {
+            return Some(Hint::Break);
+        }
+    }
+    if token == b"remote".as_slice() || token == b"get".as_slice() || token == b"put".as_slice() {
+        return Some(Hint::LoneValue);
+    }
+    if token == b"push".as_slice() && behind == b'(' {
+        return Some(Hint::LonePush);
+    }
+    if behind == b'[' && is_letter(byte_at(token, 0)) && !is_reserved(token) {
+        return Some(Hint::Item);
+    }
+    statement_hint(behind)
+}
+
 /// Of a token at which a function or a statement was to begin, with the text before it and the byte behind it.
 fn begun_hint(token: &[u8], front: &[u8], behind: u8) -> Option<Hint>
     ensures { result ≡ begun_hint token.now front.now behind }
 {
     if !is_outside(front) {
-        return statement_hint(behind);
+        return inner_hint(token, behind);
     }
     if is_letter(byte_at(token, 0)) && behind != 0 {
         return Some(Hint::Function);
     }
     None
+}
+
+/// Whether a `,` inside brackets is that of a tuple: it is in no call of `len` or `push`, and in no head of a function.
+fn is_tuple(front: &[u8], before: u8) -> bool
+    ensures { result ≡ is_tuple front.now before }
+{
+    if !is_value_end(before) || !is_within(front, b'(', b')') {
+        return false;
+    }
+    if has_word(front, b"len".as_slice()) || has_word(front, b"push".as_slice()) {
+        return false;
+    }
+    !has_word(front, b"fn".as_slice())
+}
+
+/// Of a token behind a `set`, with the byte behind it.
+fn set_hint(token: &[u8], front: &[u8], behind: u8) -> Option<Hint>
+    ensures { result ≡ set_hint token.now front.now behind }
+{
+    if !has_word(front, b"set".as_slice()) || is_behind(front, b"set".as_slice()) {
+        return None;
+    }
+    if token == b"[".as_slice() {
+        return Some(Hint::Item);
+    }
+    if is_sum_sign(byte_at(token, 0)) && (behind == b'=' || behind == byte_at(token, 0)) {
+        return Some(Hint::Sum);
+    }
+    None
+}
+
+/// Of a token behind a word that other languages have there, of such a word, or of a token behind a `set`.
+fn word_hint(token: &[u8], front: &[u8], behind: u8) -> Option<Hint>
+    ensures { result ≡ word_hint token.now front.now behind }
+{
+    if token == b"and".as_slice() {
+        return Some(Hint::And);
+    }
+    if token == b"or".as_slice() {
+        return Some(Hint::Or);
+    }
+    if is_in_word(byte_at(token, 0)) && is_behind(front, b"not".as_slice()) {
+        return Some(Hint::Not);
+    }
+    if is_in_word(byte_at(token, 0)) && is_behind(front, b"mut".as_slice()) {
+        return Some(Hint::Mutable);
+    }
+    set_hint(token, front, behind)
+}
+
+/// Of a token that stands inside a statement, where no semicolon is missing.
+fn place_hint(token: &[u8], front: &[u8], before: u8, behind: u8) -> Option<Hint>
+    ensures { result ≡ place_hint token.now front.now before behind }
+{
+    if token == b"(".as_slice() && is_behind(front, b"for".as_slice()) {
+        return Some(Hint::Bounds);
+    }
+    if token == b"(".as_slice() && is_behind(front, b"let".as_slice()) {
+        return Some(Hint::Tuple);
+    }
+    if token == b",".as_slice() && is_tuple(front, before) {
+        return Some(Hint::Tuple);
+    }
+    word_hint(token, front, behind)
 }
 
 /// Of a token that the grammar does not allow there, with the text before it and the bytes before and behind it that are no blanks.
@@ -425,16 +608,19 @@ fn token_hint(token: &[u8], front: &[u8], before: u8, behind: u8) -> Option<Hint
         return Some(Hint::SlashComment);
     }
     if token == b":".as_slice() {
-        return colon_hint(front);
+        return colon_hint(front, before);
     }
-    if token == b"{".as_slice() && before == b')' {
-        return Some(Hint::NoResult);
+    if token == b"{".as_slice() {
+        return brace_hint(front, before);
     }
     if token == b"]".as_slice() && before == b'[' {
         return bracket_hint(front);
     }
     if before == b',' && (token == b"]".as_slice() || token == b")".as_slice()) {
         return Some(Hint::LastComma);
+    }
+    if token == b"for".as_slice() && is_within(front, b'[', b']') {
+        return Some(Hint::ListLoop);
     }
     if is_reserved(token) && is_name_wanted(front, before) {
         return Some(Hint::Reserved);
@@ -443,7 +629,7 @@ fn token_hint(token: &[u8], front: &[u8], before: u8, behind: u8) -> Option<Hint
         return begun_hint(token, front, behind);
     }
     if !lacks_semicolon(token, before) {
-        return None;
+        return place_hint(token, front, before, behind);
     }
     if is_within(front, b'[', b']') || is_within(front, b'(', b')') {
         return Some(Hint::Unclosed);
@@ -458,6 +644,9 @@ fn name_hint(name: &[u8]) -> Option<Hint>
     if name == b"true".as_slice() || name == b"false".as_slice() {
         return Some(Hint::Truth);
     }
+    if name == b"not".as_slice() {
+        return Some(Hint::Not);
+    }
     None
 }
 
@@ -470,7 +659,8 @@ impl Hint {
             return None;
         }
         match code {
-            2 => sign_hint(byte_at(text, start), byte_at(text, start + 1)),
+            1 => mark_hint(text, start),
+            2 => run_hint(&text[start..end], byte_at(text, start + 1)),
             3 => token_hint(
                 &text[start..end],
                 &text[..start],
@@ -490,10 +680,11 @@ impl Hint {
             Hint::Greater => "there is no >: a > b is b < a",
             Hint::AtLeast => "there is no >=: a >= b is b <= a",
             Hint::And =>
-                "there is no &&: one if stands inside another, or a * b where both are 0 or 1",
-            Hint::Ampersand => "there is no &: put a makes a reference, and nothing works on bits",
-            Hint::Or => "there is no ||: 0 < a + b, where both are 0 or 1",
-            Hint::Not => "there is no !: not a is a == 0",
+                "there is no && and no word and: one if stands inside another, or a * b where both are 0 or 1",
+            Hint::Ampersand =>
+                "there is no &: put 1 makes a reference, of the type ref int, and nothing works on bits",
+            Hint::Or => "there is no ||, no | and no word or: 0 < a + b, where both are 0 or 1",
+            Hint::Not => "there is no ! and no word not: not a is a == 0",
             Hint::Text => "there are no texts: values are numbers, lists and references",
             Hint::Fraction => "there are no fractions, and .. stands between the bounds of a loop",
             Hint::Method => "there are no methods: push(l, 3), len(l)",
@@ -508,6 +699,19 @@ impl Hint {
                 "a statement begins with let, set, if, for, print or return: set x = x + 1;"
             }
             Hint::LoneCall => "a call alone is no statement: let unused = f();",
+            Hint::LonePush => "push gives a new list: set l = push(l, 3);",
+            Hint::LoneValue => "a value alone is no statement: let r = remote f(); let x = get r;",
+            Hint::Break =>
+                "there is no break and no continue: a return ends a loop and its function, and an if leaves out a part of a turn",
+            Hint::Item =>
+                "no item of a list can be set: set m = push(m, x); in a loop makes a new list",
+            Hint::Sum => "a variable's new value is written whole: set x = x + 1;",
+            Hint::Mutable =>
+                "there is no mut, since every variable can be set: let x = 1; set x = 2;",
+            Hint::Tuple =>
+                "there are no tuples: [1, 2] is a list, return 1, 2; gives two results, and let a, b = f(); takes them",
+            Hint::ListLoop =>
+                "a [ before it is not closed, and no for stands in a list: set l = push(l, x); in a loop makes one",
             Hint::EmptyList => "an empty list says of which type its items are: empty int",
             Hint::ListType => "a list's type names that of its items: [int]",
             Hint::Index => "an index stands between the brackets: l[0]",
@@ -515,9 +719,9 @@ impl Hint {
             Hint::Colon => {
                 "a block stands in { } and not behind a :, and a variable's type isn't written: let x = 1;"
             }
-            Hint::NoResult => {
-                "a function says of which type its result is, fn f() -> int { }, and a loop has two bounds, for i in 0 .. 10 { }"
-            }
+            Hint::NoResult => "a function says of which type its result is: fn f() -> int { }",
+            Hint::Bounds =>
+                "a loop counts from one bound to another: for i in 0 .. len(l) { let x = l[i]; }",
             Hint::Truth => "there are no truth values: 1 and 0 stand for them",
             Hint::Semicolon => {
                 "a statement ends with ;, and the block of an if or a for stands in { }"
@@ -526,6 +730,9 @@ impl Hint {
             Hint::NamedArgument => "an argument has no name: f(1)",
             Hint::Reserved => "this is a word of the language, and can't be a name",
             Hint::Function => "a function begins with fn, and every statement stands in one",
+            Hint::ByteOrderMark =>
+                "a byte order mark stands before the script: save the file without one",
+            Hint::LeastNumber => "the least number is written -9223372036854775807 - 1",
         }
     }
 }

@@ -22,7 +22,7 @@ pub enum RefusalCause {
     WrongType,
     /// 12: a call has too many or too few arguments.
     WrongCount,
-    /// 13: there is no main, or it has parameters, or its result isn't int.
+    /// 13: there is no main, or it has parameters, or its result isn't int, or it has several.
     NoMain,
     /// 14: a function other than main prints.
     PrintOutsideMain,
@@ -201,7 +201,7 @@ impl RefusalCause {
             RefusalCause::WrongCount =>
                 "A call has too many or too few arguments. The place is the function's name in the call.",
             RefusalCause::NoMain =>
-                "There is no main, or it has parameters, or its result is not int. The place is 0..0.",
+                "There is no main, or it has parameters, or its result is not int, or it has several results. The place is 0..0.",
             RefusalCause::PrintOutsideMain =>
                 "A function other than main prints. The place is the word print.",
             RefusalCause::MissingReturn =>
@@ -227,17 +227,21 @@ impl RefusalCause {
                 "A notice of the death of a worker or node that lives or never was.",
             RefusalCause::NoNode => "The node that an event names does not live.",
             RefusalCause::Limit =>
-                "The event would make object 1,000,001, worker 1,025 or node 65. A run that meets it ends with no report, unless --so-far asks for the one up to there; a replay goes on behind it.",
+                "The event would make object 1,000,001, worker 1,025 or node 65. \
+                 A run that meets it ends with no report, unless --so-far asks for the one up to there; a replay goes on behind it.",
             RefusalCause::Halted =>
                 "An earlier event found no memory (39), so no further event is taken.",
             RefusalCause::NoMemory =>
-                "There was no memory. A command then gives no report; the log of a run stays legal.",
+                "There was no memory. A command then gives no report; the log of a run stays legal. \
+                 Take a smaller script, fewer events, or a machine with more memory.",
             RefusalCause::BadLine =>
                 "A line of an event file or a plan is none of its format, or the last line has no line feed. Lines are counted from 1.",
             RefusalCause::TooLong =>
-                "More than 100,000 events would be applied. A replay that meets it ends with no report, unless --so-far asks for the one up to there.",
+                "More than 100,000 events would be applied. A replay that meets it ends with no report. \
+                 Take fewer events, or ask for the report up to there by --so-far.",
             RefusalCause::WrongJob =>
-                "A claim gave another job than the line of a recorded history says. The file was recorded of another run.",
+                "A claim gave another job than the line of a recorded history says. The file was recorded of another run. \
+                 Replay it with the script and the cluster that it was recorded of: where it has # lines, they say which.",
             RefusalCause::Failed =>
                 "A read or a write failed. After a failed write of the report a beginning of it may be out.",
         }

@@ -1,6 +1,6 @@
 // Where the frames of attempts that wait are kept, one for each worker at most, and handed to their next jobs.
 
-ghost use Rattle.std.specs.Prelude.{◌≡◌, ◌%◌, [], true, IfOk, IfSome};
+ghost use Rattle.std.specs.Prelude.{◌≡◌, ◌%◌, [], IfOk, IfSome};
 ghost use Rattle.script_check.specs.Trees.{script_of};
 ghost use Rattle.segment.specs.Jobs.{IsTrueOf};
 ghost use Rattle.kept_frames.specs.Known.{AllAgree, IsNext, KeepsOnly, KeepsOr, KeepsWith};
@@ -54,9 +54,9 @@ impl<S: ScriptName> Frames<S> {
         }
     }
 
-    /// Hands the job the frame of its attempt, if that is kept. With `is_own` as many answers that are known are the job's.
-    fn hand(&mut self, job: Job<S>, is_own: bool) -> Ready<S>
-        requires { is_own ≡ true → AllAgree self.old job }
+    /// Hands the job the frame of its attempt, if that is kept.
+    fn hand(&mut self, job: Job<S>) -> Ready<S>
+        requires { AllAgree self.old job }
         ensures job { result.job ≡ job }
         ensures known { IfSome result.known (λ known. IsNext (data_of known.value) job) }
         ensures kept { KeepsWith job self.old self.new }
@@ -66,7 +66,7 @@ impl<S: ScriptName> Frames<S> {
             return Ready { job, known: None };
         }
         match self.waiting[place].take() {
-            Some(waiting) => waiting.hand(job, is_own),
+            Some(waiting) => waiting.hand(job),
             None => Ready { job, known: None },
         }
     }
@@ -120,46 +120,10 @@ impl<S: ScriptName> Frames<S> {
         }
     }
 
-    /// Runs the job, from where its attempt waits if that is known, and keeps where it waits next. With `is_own` as many answers that are known
-    /// are the job's.
-    fn go(
-        &mut self,
-        alloc: Global,
-        script: &Compiled,
-        job: Job<S>,
-        is_own: bool,
-    ) -> Result<Done<S>, NoMemory>
-        requires script { script_of script.now ≡ S.script }
-        requires own { is_own ≡ true → AllAgree self.old job }
-        ensures own { IfOk result (λ d. d.job ≡ job) }
-        ensures is_true { IfOk result (λ d. IsTrueOf S.script d) }
-        ensures kept { KeepsWith job self.old self.new }
-    {
-        let Ready { job, known } = self.hand(job, is_own);
-        let mut done = job.run(alloc, script)?;
-        self.keep(alloc, known, &mut done);
-        Ok(done)
-    }
-
     /// Runs the job, from where its attempt waits if that is known, and keeps where it waits next. Takes no lock. On `NoMemory` the job is
-    /// given up. The job's answers are compared with those that are known of its attempt.
+    /// given up. Its answers go on from those that are known of its attempt, as they do if job and frames are of one run: they aren't read, and the
+    /// cost doesn't grow with them.
     pub fn run(
-        &mut self,
-        alloc: Global,
-        script: &Compiled,
-        job: Job<S>,
-    ) -> Result<Done<S>, NoMemory>
-        requires { script_of script.now ≡ S.script }
-        ensures own { IfOk result (λ d. d.job ≡ job) }
-        ensures is_true { IfOk result (λ d. IsTrueOf S.script d) }
-        ensures kept { KeepsWith job self.old self.new }
-    {
-        self.go(alloc, script, job, false)
-    }
-
-    /// Runs the job, as `run` does, where its answers go on from those that are known of its attempt, as they do if both are of one run. They
-    /// aren't read: the cost doesn't grow with them.
-    pub fn run_own(
         &mut self,
         alloc: Global,
         script: &Compiled,
@@ -171,6 +135,9 @@ impl<S: ScriptName> Frames<S> {
         ensures is_true { IfOk result (λ d. IsTrueOf S.script d) }
         ensures kept { KeepsWith job self.old self.new }
     {
-        self.go(alloc, script, job, true)
+        let Ready { job, known } = self.hand(job);
+        let mut done = job.run(alloc, script)?;
+        self.keep(alloc, known, &mut done);
+        Ok(done)
     }
 }

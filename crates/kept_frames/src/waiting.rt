@@ -8,7 +8,7 @@ ghost use Rattle.kept_frames.specs.Views.{data_of};
 use crate::known::Known;
 use segment::{Frame, Job, ScriptName};
 use std::marker::{Model, PhantomData};
-use values::{Content, are_same_contents};
+use values::Content;
 
 /// An attempt of the script `S` that waits for its next answer, with its frame. Both stand behind pointers, so that they are handed on at the
 /// cost of a few words.
@@ -54,19 +54,15 @@ fn is_shaped<S: ScriptName>(known: &Known, job: &Job<S>, earlier: &[Content]) ->
         && known.spec.inner.is_same(&job.spec().inner)
 }
 
-/// Whether the job's attempt is the known one, with one answer more. With the same answers, as many births and prints are the same. With `is_own`
-/// as many answers are the same too.
-fn is_next<S: ScriptName>(known: &Known, job: &Job<S>, is_own: bool) -> bool
-    requires { is_own ≡ true → Agrees (data_of known.now) job.now }
+/// Whether the job's attempt is the known one, with one answer more. With the same answers, as many births and prints are the same.
+fn is_next<S: ScriptName>(known: &Known, job: &Job<S>) -> bool
+    requires { Agrees (data_of known.now) job.now }
     ensures { result ≡ true → IsNext (data_of known.now) job.now }
 {
     let Some((_, earlier)) = job.answers().as_slice().split_last() else {
         return false;
     };
-    if !is_shaped(known, job, earlier) {
-        return false;
-    }
-    is_own || are_same_contents(&known.answers, earlier)
+    is_shaped(known, job, earlier)
 }
 
 impl<S: ScriptName> Waiting<S> {
@@ -82,9 +78,9 @@ impl<S: ScriptName> Waiting<S> {
         }
     }
 
-    /// Hands the frame to the job, if it is one of this attempt, with one answer more. With `is_own` as many answers of the two are the same.
-    pub(crate) fn hand(self, job: Job<S>, is_own: bool) -> Ready<S>
-        requires { is_own ≡ true → Agrees self job }
+    /// Hands the frame to the job, if it is one of this attempt, with one answer more.
+    pub(crate) fn hand(self, job: Job<S>) -> Ready<S>
+        requires { Agrees self job }
         ensures job { result.job ≡ job }
         ensures known { IfSome result.known (λ known. IsNext (data_of known.value) job) }
     {
@@ -93,7 +89,7 @@ impl<S: ScriptName> Waiting<S> {
             frame,
             script: _,
         } = self;
-        if !is_next(&known, &job, is_own) {
+        if !is_next(&known, &job) {
             return Ready { job, known: None };
         }
         job.attest();

@@ -72,7 +72,7 @@ fn commit<S: ScriptName>(
     ensures broken { IfErr result (λ refusal. BreaksAfter S.script (course_of board.old sent.old) job (course_of board.new sent.new) refusal) }
 {
     let number = job.number();
-    let Ok(done) = frames.run_own(alloc, script, job) else {
+    let Ok(done) = frames.run(alloc, script, job) else {
         return Err(Refusal::NoMemory);
     };
     match go(alloc, board, sent, Event::Commit(number), Some(done)) {

@@ -56,7 +56,7 @@ pub fn run_job<S: ScriptName>(
     let Some(job) = job else {
         return Ok(None);
     };
-    match frames.run_own(alloc, script, job) {
+    match frames.run(alloc, script, job) {
         Ok(done) => Ok(Some(done)),
         Err(_) => Err(ReplayStop::NoMemory),
     }

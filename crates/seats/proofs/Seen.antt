@@ -46,9 +46,6 @@ job_is_own seen log j on own = subst (λ l. IsOfLog l j) on.1 (job_stays_own see
 pub frames_are_own : (seen log : List Entry) (kept : List (Option KnownData)) → IsPrefix seen log → FramesAreOwn seen kept → FramesAreOwn log kept
 frames_are_own seen log kept on own = subst (λ l. FramesAreOwn l kept) on.1 (frames_stay_own seen on.0 kept own)
 
-pub done_is_own : (seen whole log : List Entry) (d : Done) → IsPrefix seen whole → whole ≡ log → IsOfLog seen d.job → IsOwn log (Some d)
-done_is_own seen whole log d on same own = subst (λ l. IsOfLog l d.job) same (job_is_own seen whole d.job on own)
-
 -- the job goes on from what is known of its attempt
 pub job_agrees : (one other log : List Entry) (kept : List (Option KnownData)) (j : JobParts) → IsPrefix one log → IsPrefix other log → FramesAreOwn one kept →
     IsOfLog other j → AllAgree kept j
@@ -59,10 +56,3 @@ pub still_own : (one other log : List Entry) (before after : List (Option KnownD
     FramesAreOwn one before → IsOfLog other j → KeepsWith j before after → FramesAreOwn log after
 still_own one other log before after j p q frames own kept =
     kept_with log j before after (frames_are_own one log before p frames) (job_is_own other log j q own) kept
-
--- nothing is kept yet
-pub none_kept : (log : List Entry) → FramesAreOwn log []
-none_kept log place k at = absurd (none_some at)
-  where
-    none_some : None ≡ Some (Some k) → ⊥
-    none_some e = cc

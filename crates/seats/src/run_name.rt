@@ -9,8 +9,8 @@ use shared_log::LogName;
 use std::marker::Brand;
 
 /// A type that stands for one run on threads in contracts: which of its seats is watched, the log that they share, the plan beside it, the cluster on
-/// which it begins, and whether it is open: calls may then apply events from outside that the plan doesn't have. Of a run under a lock nothing is known but what its type
-/// says.
+/// which it begins, and whether it is open: calls may then apply any events, beside those that turns apply. Of a run under a lock nothing is known but
+/// what its type says.
 pub trait RunName: Watching + LogName {
     ghost plan: { List PlanLine };
 

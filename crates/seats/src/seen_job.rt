@@ -51,18 +51,6 @@ impl<S: ScriptName, P: LogName> SeenJob<S, P> {
     {
         self.job.number()
     }
-
-    /// The job alone.
-    pub fn into_job(self) -> Job<S>
-        ensures { result ≡ self }
-    {
-        let SeenJob {
-            job,
-            seen: _,
-            is_own: _,
-        } = self;
-        job
-    }
 }
 
 /// What was done on a job of a run whose log is shared by the name `P`, seen as that. Where the job is the run's own, what its attempt was answered
@@ -168,7 +156,7 @@ impl<S: ScriptName, P: LogName> SeenFrames<S, P> {
         }
         self.seen = self.seen.longer(&seen);
         Ok(SeenDone {
-            done: self.frames.run_own(alloc, script, job)?,
+            done: self.frames.run(alloc, script, job)?,
             seen,
             is_own: true,
         })

@@ -6,8 +6,8 @@ use Rattle.protocol_board.proofs.Own.{all_agree, frames_behind, kept_with}
 use Rattle.protocol_board.proofs.Turning.{committed_so, broken_so}
 use Rattle.protocol_board.proofs.driving.commit.Goals as goal
 
-pub run_own-requires-clause-own : goal.run_own-requires-clause-own
-run_own-requires-clause-own g c = all_agree c.args.board.now.log c.args.frames.now c.args.job c.requires.frames c.requires.own
+pub run-requires-clause-own : goal.run-requires-clause-own
+run-requires-clause-own g c = all_agree c.args.board.now.log c.args.frames.now c.args.job c.requires.frames c.requires.own
 
 pub go-requires : goal.go-requires
 go-requires g c = subst (IsOfLog c.args.board.now.log) (sym c.in-Ok.ensures.own) c.requires.own
@@ -15,8 +15,8 @@ go-requires g c = subst (IsOfLog c.args.board.now.log) (sym c.in-Ok.ensures.own)
 pub returns-in-Ok-taken-clause-frames : goal.returns-in-Ok-taken-clause-frames
 returns-in-Ok-taken-clause-frames g c =
     let log = c.args.board.now.log in
-    let kept = kept_with log c.args.job c.args.frames.now c.run_own.new.self c.requires.frames c.requires.own c.run_own.ensures.kept in
-    frames_behind c.args.board.now c.go.new.board c.run_own.new.self c.in-Ok-go.ensures.goes.answers kept
+    let kept = kept_with log c.args.job c.args.frames.now c.run.new.self c.requires.frames c.requires.own c.run.ensures.kept in
+    frames_behind c.args.board.now c.go.new.board c.run.new.self c.in-Ok-go.ensures.goes.answers kept
 
 pub returns-in-Ok-taken-clause-committed : goal.returns-in-Ok-taken-clause-committed
 returns-in-Ok-taken-clause-committed g c =

@@ -1,6 +1,6 @@
 use Rattle.std.proofs.Common.{◌∙◌}
 use Rattle.kept_frames.proofs.Places.{kept_then}
-use Rattle.kept_frames.proofs.keeping.Frames.go.Goals as goal
+use Rattle.kept_frames.proofs.keeping.Frames.run.Goals as goal
 
 pub returns-clause-kept : goal.returns-clause-kept
 returns-clause-kept g c =

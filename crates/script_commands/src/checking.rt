@@ -1,6 +1,6 @@
 // The command `check`: whether a text is a script that the rules allow.
 
-ghost use Rattle.std.specs.Prelude.{◌≡◌, ◌⊎◌, ℕ, List, codes, true, take, IfOk, OnOk, IfErr, IfSome};
+ghost use Rattle.std.specs.Prelude.{◌≡◌, ◌⊎◌, ℕ, List, codes, true, take, IfOk, OnOk, IfErr, IfSome, IsErrOf};
 ghost use Rattle.std.specs.Io.KnownBytes.{Appends};
 ghost use Rattle.script_commands.specs.Scripts.{IsAllowed, Explains, IsUnwritten};
 
@@ -10,8 +10,8 @@ use std::alloc::Global;
 
 /// Reads a script's text, and writes `ok` where the text is a script that the rules allow. The status is then 0.
 ///
-/// Else the refusal says why: `At` where the text is no such script, `NoMemory`, or `Failed` where a read or a write failed within the call.
-/// After a failed write a beginning of the text is out; before any other refusal nothing is written.
+/// Else the refusal says why: `At` where the text is no such script, `Failed` where a read or a write failed within the call, or `NoMemory`, where none
+/// did. After a failed write a beginning of the text is out; before any other refusal nothing is written.
 pub fn check<R: Source, W: Sink>(
     alloc: Global,
     reader: &mut R,
@@ -22,6 +22,8 @@ pub fn check<R: Source, W: Sink>(
     ensures written { OnOk result (Appends (W.held writer.old) (W.held writer.new) (codes "ok\n")) }
     ensures refused { IfErr result (λ refusal. Explains (R.left reader.old)
         (R.failures reader.old, R.failures reader.new) (W.failures writer.old, W.failures writer.new) refusal) }
+    ensures memory { IsErrOf result CommandRefusal.NoMemory →
+        (R.failures reader.new ≡ R.failures reader.old) × (W.failures writer.new ≡ W.failures writer.old) }
     ensures unwritten { IfErr result (λ refusal. IsUnwritten refusal → W.held writer.new ≡ W.held writer.old) }
     ensures beginning { IfErr result (λ refusal. (k : ℕ) × Appends (W.held writer.old) (W.held writer.new) (take k (codes "ok\n"))) }
 {

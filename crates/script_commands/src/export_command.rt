@@ -1,6 +1,6 @@
 // The command `export`: a script as a Python program for an engine.
 
-ghost use Rattle.std.specs.Prelude.{◌≡◌, IfOk, OnOk, IfErr, IfSome};
+ghost use Rattle.std.specs.Prelude.{◌≡◌, IfOk, OnOk, IfErr, IfSome, IsErrOf};
 ghost use Rattle.script_commands.specs.Exports.{IsBegunExport, IsExported};
 ghost use Rattle.script_commands.specs.Scripts.{Explains, IsUnwritten};
 
@@ -11,8 +11,8 @@ use std::alloc::Global;
 
 /// Reads a script's text, and writes a Python program that runs the script on an engine. The status is then 0.
 ///
-/// Else the refusal says why: `At` where the text is no script that the rules allow, `NoMemory`, or `Failed` where a read or a write
-/// failed within the call. After a failed write a beginning of the program is out; before any other refusal nothing is written.
+/// Else the refusal says why: `At` where the text is no script that the rules allow, `Failed` where a read or a write failed within the call, or
+/// `NoMemory`, where none did. After a failed write a beginning of the program is out; before any other refusal nothing is written.
 pub fn export<R: Source, W: Sink>(
     alloc: Global,
     reader: &mut R,
@@ -23,6 +23,8 @@ pub fn export<R: Source, W: Sink>(
     ensures exported { OnOk result (IfSome (R.left reader.old) (λ text. IsExported engine text (W.held writer.old) (W.held writer.new))) }
     ensures refused { IfErr result (λ refusal. Explains (R.left reader.old)
         (R.failures reader.old, R.failures reader.new) (W.failures writer.old, W.failures writer.new) refusal) }
+    ensures memory { IsErrOf result CommandRefusal.NoMemory →
+        (R.failures reader.new ≡ R.failures reader.old) × (W.failures writer.new ≡ W.failures writer.old) }
     ensures unwritten { IfErr result (λ refusal. IsUnwritten refusal → W.held writer.new ≡ W.held writer.old) }
     ensures beginning { IfErr result (λ refusal. IfSome (R.left reader.old) (λ text.
         IsBegunExport engine text (W.held writer.old) (W.held writer.new))) }

@@ -1,6 +1,6 @@
 // How a command comes to a script: reads its text, checks it, and makes its code.
 
-ghost use Rattle.std.specs.Prelude.{◌≡◌, ◌≤◌, vec_len, IfOk, IfErr, IfSome, OnOk};
+ghost use Rattle.std.specs.Prelude.{◌≡◌, ◌≤◌, vec_len, IfOk, IfErr, IfSome, IsErrOf, OnOk};
 ghost use Rattle.std.specs.Io.KnownBytes.{Consumes};
 ghost use Rattle.script_check.specs.Trees.{script_of};
 ghost use Rattle.script_commands.specs.Scripts.{Counts, IsAllowed, IsPlaced, IsScript, IsRefusalOf, IsTakenSoFar, IsUnwritten, Explains, syntax_refusal, check_refusal};
@@ -16,11 +16,13 @@ use std::alloc::Global;
 pub const MOST_BYTES: usize = 65_536;
 
 /// The text of a script, and nothing else is taken from the reader. One of more than 65,536 bytes is refused 4 at 0..0, and all but one byte of
-/// the rest stays unread.
+/// the rest stays unread. `NoMemory` is told where no read failed in this call.
 pub fn read_script<R: Source>(alloc: Global, reader: &mut R) -> Result<Vec<u8>, CommandRefusal>
     ensures ok { IfOk result (λ all. IfSome (R.left reader.old) (λ bytes. all.items ≡ bytes)) }
     ensures refused { (writes : Counts) → IfErr result (λ refusal. Explains (R.left reader.old)
         (R.failures reader.old, R.failures reader.new) writes refusal) }
+    ensures memory { IsErrOf result CommandRefusal.NoMemory → R.failures reader.new ≡ R.failures reader.old }
+    ensures unfailed { OnOk result (R.failures reader.new ≡ R.failures reader.old) }
     ensures unwritten { IfErr result IsUnwritten }
     ensures bound { IfOk result (λ all. vec_len all ≤ 65536) }
     ensures taken { IfOk result (λ all. Consumes (R.left reader.old) (R.left reader.new) all.items) }
@@ -96,6 +98,8 @@ pub fn read_checked<R: Source>(alloc: Global, reader: &mut R) -> Result<Checked,
     ensures allowed { OnOk result (IfSome (R.left reader.old) IsAllowed) }
     ensures refused { (writes : Counts) → IfErr result (λ refusal. Explains (R.left reader.old)
         (R.failures reader.old, R.failures reader.new) writes refusal) }
+    ensures memory { IsErrOf result CommandRefusal.NoMemory → R.failures reader.new ≡ R.failures reader.old }
+    ensures unfailed { OnOk result (R.failures reader.new ≡ R.failures reader.old) }
 {
     let text = match read_script(alloc, reader) {
         Ok(text) => text,
@@ -112,6 +116,8 @@ pub fn read_compiled<R: Source>(alloc: Global, reader: &mut R) -> Result<Compile
     ensures found { IfOk result (λ script. IfSome (R.left reader.old) (λ text. IsScript text (script_of script))) }
     ensures refused { (writes : Counts) → IfErr result (λ refusal. Explains (R.left reader.old)
         (R.failures reader.old, R.failures reader.new) writes refusal) }
+    ensures memory { IsErrOf result CommandRefusal.NoMemory → R.failures reader.new ≡ R.failures reader.old }
+    ensures unfailed { OnOk result (R.failures reader.new ≡ R.failures reader.old) }
 {
     let script = match read_checked(alloc, reader) {
         Ok(script) => script,

@@ -1,6 +1,6 @@
 // The command `serial`: what main prints and how it ends where each remote call is a plain call.
 
-ghost use Rattle.std.specs.Prelude.{◌≡◌, ℕ, take, IfOk, OnOk, IfErr, IfSome, string_bytes};
+ghost use Rattle.std.specs.Prelude.{◌≡◌, ℕ, take, IfOk, OnOk, IfErr, IfSome, IsErrOf, string_bytes};
 ghost use Rattle.std.specs.Io.KnownBytes.{Appends};
 ghost use Rattle.script_check.specs.Trees.{script_of};
 ghost use Rattle.values.specs.Values.{content_of};
@@ -50,8 +50,8 @@ fn serial_report(alloc: Global, script: &Checked) -> Result<SerialReport, Comman
 /// Reads a script's text, and writes what main prints and how it ends where every remote call is a plain call: a line `print V` for
 /// each print, then `main value V` or `main trap T`. The status is 0 for a value and 1 for a trap.
 ///
-/// Else the refusal says why: `At` where the text is no script that the rules allow, `NoMemory`, or `Failed` where a read or a write
-/// failed within the call. After a failed write a beginning of the report is out; before any other refusal nothing is written.
+/// Else the refusal says why: `At` where the text is no script that the rules allow, `Failed` where a read or a write failed within the call, or
+/// `NoMemory`, where none did. After a failed write a beginning of the report is out; before any other refusal nothing is written.
 pub fn serial<R: Source, W: Sink>(
     alloc: Global,
     reader: &mut R,
@@ -60,6 +60,8 @@ pub fn serial<R: Source, W: Sink>(
     ensures reported { IfOk result (λ status. IfSome (R.left reader.old) (λ text. IsReported text status (W.held writer.old) (W.held writer.new))) }
     ensures refused { IfErr result (λ refusal. Explains (R.left reader.old)
         (R.failures reader.old, R.failures reader.new) (W.failures writer.old, W.failures writer.new) refusal) }
+    ensures memory { IsErrOf result CommandRefusal.NoMemory →
+        (R.failures reader.new ≡ R.failures reader.old) × (W.failures writer.new ≡ W.failures writer.old) }
     ensures unwritten { IfErr result (λ refusal. IsUnwritten refusal → W.held writer.new ≡ W.held writer.old) }
     ensures beginning { IfErr result (λ refusal. IfSome (R.left reader.old) (λ text. IsBegun text (W.held writer.old) (W.held writer.new))) }
 {

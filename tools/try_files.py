@@ -219,7 +219,7 @@ SCRIPTS = [
     (3, "fn print(x: int) -> int { return x; }\n", "print", 5, ["expected: NAME", "found: print"]),
     (3, "fn main() -> int { let set = 3; return 1; }\n", "set", 3, ["expected: NAME", "found: set"]),
     (3, "fn main() -> int { let len = 3; return 1; }\n", "len", 3, ["expected: NAME", "found: len"]),
-    (3, "fn a() -> int { return 1; }\nmain() -> int { return a(); }\n", "main", 4, ["expected one of: fn the end of the text", "found: main"]),
+    (3, "fn a() -> int { return 1; }\nmain() -> int { return a(); }\n", "main", 4, ["expected one of: fn or the end of the text", "found: main"]),
     (3, "fn main() -> int { f(); return 1; }\n", "f();", 1, ["expected one of: let set if for print return }", "found: f"]),
     (3, "fn f(l: [int]) -> int { return l[]; }\n", "]; }", 1, [f"expected one of: {VALUES}", "found: ]"]),
     (3, "fn main() -> int { let l = []; return 1; }\n", "]; r", 1, [f"expected one of: {VALUES}", "found: ]"]),
@@ -505,13 +505,13 @@ def try_writes(trial):
 def try_failures(trial):
     """Writes that fail on the way: older files stay, what could be written is, and each failure is told."""
     large, full = "File too large (os error 27)", "No space left on device (os error 28)"
-    old, new = (unwritten(it, large) + f"{it} is not written; the report is\n" for it in ["old", "t"])
+    old, new = (unwritten(it, large) + f"{it} is not written; the standard output is\n" for it in ["old", "t"])
     trial.run("run sq.ray --history old", 1, old, REPORT, most=100)
     trial.run("run sq.ray --timeline old", 1, old, REPORT, most=100)
     trial.run("sim sq.ray settle.ev --lineage old", 1, old, REPORT, most=100)
     trial.run("run sq.ray --history old --timeline t", 1, old + new, REPORT, most=100)
     trial.run("run sq.ray --history old --timeline t", 1, new, REPORT, {"old": is_history}, most=400)
-    special = unwritten("/dev/full", full) + "/dev/full is not written; the report is\n"
+    special = unwritten("/dev/full", full) + "/dev/full is not written; the standard output is\n"
     trial.run("run sq.ray --history /dev/full --lineage old", 1, special, REPORT, {"old": is_graph})
 
     def to_full(_):
@@ -522,7 +522,7 @@ def try_failures(trial):
         trial.run(words, 1, told, output=to_full)
     trial.run("run sq.ray --history old --timeline t", 1, told, changed={"old": is_history, "t": is_json}, output=to_full)
     trial.run("run sq.ray --lineage old", 1, told, changed={"old": is_graph}, output=to_full)
-    lost = told + unwritten("/dev/full", full) + "/dev/full is not written, and neither is the report\n"
+    lost = told + unwritten("/dev/full", full) + "/dev/full is not written, and neither is the standard output\n"
     trial.run("run sq.ray --lineage /dev/full", 1, lost, output=to_full)
 
     def to_closed_pipe(_):
@@ -640,7 +640,7 @@ def try_limits(trial):
     # (a run of 100,002 events has a report, and nothing that is made from its replay)
     FILES["long.ray"] = b"fn f() -> int { return 1; }\nfn main() -> int { for i in 0 .. 10000 { let unused = get remote f(); } return 0; }\n"
     long = re.escape(f"refused 41\n{limit}") + r"the last step was in event 100000 \([a-z]+ \d+\)\n" + re.escape(alone)
-    beside, report = r"{} is not written; the report is\n", re.compile(rb"main value 0\n.*", re.S)
+    beside, report = r"{} is not written; the standard output is\n", re.compile(rb"main value 0\n.*", re.S)
     trial.run("faults long.ray", 1, re.compile(long))
     trial.run("run long.ray --page p", 1, re.compile(long + beside.format("p")), report)
     trial.run("run long.ray --threads 1 --lineage l", 1, re.compile(long + beside.format("l")), report)

@@ -178,7 +178,7 @@ pub fn stopped<R: Eprint + AllocGlobal>(rt: &R, stop: Stop<'_>) -> ExitCode {
     ExitCode::FAILURE
 }
 
-/// Tells why a file beside the report isn't written, and whether the report is. `known` is what is known of the replay that it was written from, if any.
+/// Tells why a file beside the standard output isn't written, and whether that is. `known` is what is known of the replay that it was written from, if any.
 pub fn tell_beside<R: Eprint + AllocGlobal>(
     rt: &R,
     stop: Stop<'_>,
@@ -191,8 +191,8 @@ pub fn tell_beside<R: Eprint + AllocGlobal>(
     }
     tell(rt, stop, known);
     let _ = match report {
-        Ok(_) => eprintln!(rt; "{file} is not written; the report is"),
-        Err(_) => eprintln!(rt; "{file} is not written, and neither is the report"),
+        Ok(_) => eprintln!(rt; "{file} is not written; the standard output is"),
+        Err(_) => eprintln!(rt; "{file} is not written, and neither is the standard output"),
     };
 }
 

@@ -22,7 +22,8 @@ fn put_expected(told: &mut String, expected: &[Expectation]) -> Result<(), Alloc
         told.push_str("    expected one of:")?;
     }
     for expectation in expected {
-        told.push_str(" ")?;
+        let is_end = matches!(expectation, Expectation::End) && expected.len() > 1;
+        told.push_str(if is_end { " or " } else { " " })?;
         put_expectation(told, *expectation)?;
     }
     Ok(())

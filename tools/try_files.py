@@ -126,16 +126,16 @@ WORDS = {
 
 # What is said of those texts that look like something that another language has.
 HINTS = {
-    "fn main() -> int { return 1 }\n": "a statement ends with ;, and the block of an if or a for stands in { }",
-    "fn main() -> int {\n    let x = 3\n    return x;\n}\n": "a statement ends with ;, and the block of an if or a for stands in { }",
-    "fn main() -> int { if 1 return 1; return 2; }\n": "a statement ends with ;, and the block of an if or a for stands in { }",
+    "fn main() -> int { return 1 }\n": "a statement ends with ;, the block of an if or a for stands in { }, and an if is no value",
+    "fn main() -> int {\n    let x = 3\n    return x;\n}\n": "a statement ends with ;, the block of an if or a for stands in { }, and an if is no value",
+    "fn main() -> int { if 1 return 1; return 2; }\n": "a statement ends with ;, the block of an if or a for stands in { }, and an if is no value",
     "fn main() -> int {\n    let x = 1;\n    if x == 1:\n        return 2;\n    return x;\n}\n": "a block stands in { } and not behind a :, and a variable's type isn't written: let x = 1;",
-    "fn main() -> int { let l = [1]; l.push(3); return 1; }\n": "there are no methods: push(l, 3), len(l)",
+    "fn main() -> int { let l = [1]; l.push(3); return 1; }\n": "there are no methods: push(l, 3), len(l), remote f(1), get r",
     "fn main() -> int { let l = &1; return 1; }\n": "there is no &: put 1 makes a reference, of the type ref int, and nothing works on bits",
     "fn main() { return 1; }\n": "a function says of which type its result is: fn f() -> int { }",
     "fn main() -> int { let aB = 1; return 1; }\n": "names have small letters, digits and _ alone",
     "fn main() -> int {\n    let size = 1;\n    print size\n    if 1 { return 2; }\n    return 3;\n}\n":
-        "a statement ends with ;, and the block of an if or a for stands in { }",
+        "a statement ends with ;, the block of an if or a for stands in { }, and an if is no value",
     "fn main() -> int { if 0 { return 1; } else if 1 { return 2; } return 3; }\n":
         "there is no else if: else { if a { } }",
     "fn print(x: int) -> int { return x; }\n": "this is a word of the language, and can't be a name",
@@ -153,8 +153,8 @@ HINTS = {
     "fn main() -> int { let a = 1; if a and a { return 1; } return 2; }\n":
         "there is no && and no word and: one if stands inside another, or a * b where both are 0 or 1",
     "fn main() -> int { let a = 1; if a or a { return 1; } return 2; }\n": "there is no ||, no | and no word or: 0 < a + b, where both are 0 or 1",
-    "fn main() -> int { let a = 1; if not a { return 1; } return 2; }\n": "there is no ! and no word not: not a is a == 0",
-    "fn main() -> int { let a = 1; return not (a); }\n": "there is no ! and no word not: not a is a == 0",
+    "fn main() -> int { let a = 1; if not a { return 1; } return 2; }\n": "there is no !, no word not and no macro: not a is a == 0",
+    "fn main() -> int { let a = 1; return not (a); }\n": "there is no !, no word not and no macro: not a is a == 0",
     "fn main() -> int { for i in 0 .. 3 { break; } return 1; }\n":
         "there is no break and no continue: a return ends a loop and its function, and an if leaves out a part of a turn",
     "fn main() -> int { for i in 0 .. 3 { continue; } return 1; }\n":

@@ -684,17 +684,18 @@ impl Hint {
             Hint::Ampersand =>
                 "there is no &: put 1 makes a reference, of the type ref int, and nothing works on bits",
             Hint::Or => "there is no ||, no | and no word or: 0 < a + b, where both are 0 or 1",
-            Hint::Not => "there is no ! and no word not: not a is a == 0",
+            Hint::Not => "there is no !, no word not and no macro: not a is a == 0",
             Hint::Text => "there are no texts: values are numbers, lists and references",
             Hint::Fraction => "there are no fractions, and .. stands between the bounds of a loop",
-            Hint::Method => "there are no methods: push(l, 3), len(l)",
+            Hint::Method => "there are no methods: push(l, 3), len(l), remote f(1), get r",
             Hint::CapitalLetter => "names have small letters, digits and _ alone",
             Hint::SlashComment => "a comment begins with #",
             Hint::While => {
                 "there is no while: a for over as many turns as there may be, in a function that returns when it is done"
             }
             Hint::ElseIf => "there is no else if: else { if a { } }",
-            Hint::Assignment => "a variable gets another value by set: set x = 2;",
+            Hint::Assignment =>
+                "let x = 2; makes a variable, and set x = 2; gives it another value",
             Hint::Statement => {
                 "a statement begins with let, set, if, for, print or return: set x = x + 1;"
             }
@@ -724,7 +725,7 @@ impl Hint {
                 "a loop counts from one bound to another: for i in 0 .. len(l) { let x = l[i]; }",
             Hint::Truth => "there are no truth values: 1 and 0 stand for them",
             Hint::Semicolon => {
-                "a statement ends with ;, and the block of an if or a for stands in { }"
+                "a statement ends with ;, the block of an if or a for stands in { }, and an if is no value"
             }
             Hint::Unclosed => "a ( or a [ before it is not closed",
             Hint::NamedArgument => "an argument has no name: f(1)",

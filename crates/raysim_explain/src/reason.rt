@@ -28,7 +28,7 @@ pub enum RefusalCause {
     PrintOutsideMain,
     /// 15: a function's body may end without a return.
     MissingReturn,
-    /// 16: a remote call asks for more than 10 new runs.
+    /// 16: a remote call asks for more than 10 retries.
     BadRetries,
     /// 17: a name is given again while it is in scope.
     Duplicate,
@@ -60,7 +60,7 @@ pub enum RefusalCause {
     NoMemory,
     /// 40: a line of a list of events or of a plan is none of its format.
     BadLine,
-    /// 41: there are more events, lines or turns than one may have.
+    /// 41: there are more events, or lines of a list, than there may be.
     TooLong,
     /// 42: a claim gives another job than the history says.
     WrongJob,
@@ -253,12 +253,12 @@ impl RefusalCause {
     {
         match self {
             RefusalCause::NotAscii => "a letter with an accent, in a comment too",
-            RefusalCause::BadToken => "let aB = 1; since names have small letters",
-            RefusalCause::Expected => "fn main() -> int { return 1 } since a ; is missing",
+            RefusalCause::BadToken => "let aB = 1;, since names have small letters",
+            RefusalCause::Expected => "fn main() -> int { return 1 }, since a ; is missing",
             RefusalCause::TooLarge => "an expression with 40 opening parentheses",
             RefusalCause::UnknownName => "fn main() -> int { return x; }",
             RefusalCause::WrongType =>
-                "fn main() -> int { return put 1; } since put 1 is a ref int",
+                "fn main() -> int { return put 1; }, since put 1 is a ref int",
             RefusalCause::WrongCount =>
                 "fn one() -> int { return 1; } fn main() -> int { return one(2); }",
             RefusalCause::NoMain => "an empty script",
@@ -279,7 +279,7 @@ impl RefusalCause {
             RefusalCause::Limit => "1,100 remote calls that are all open",
             RefusalCause::Halted => "any event after a refusal 39",
             RefusalCause::NoMemory => "a very large list on a small machine",
-            RefusalCause::BadLine => "claim 01 since a number has no leading zero",
+            RefusalCause::BadLine => "claim 01, since a number has no leading zero",
             RefusalCause::TooLong => "a file of 100,001 lines join",
             RefusalCause::WrongJob =>
                 "0 claim 1 2 as the first claim of a file of format 2, since it gives job 1",

@@ -285,7 +285,7 @@ settles_long room (Some b) (Some r) h k = record {
 
 pub lines_stop : (room : ℕ) (before between : Option (List ℕ)) (old mid new : ℕ) (r : CommandRefusal) → mid ≡ old → IfKnown before between (HasRoom room) →
     IsLineRefusal (IsLongSettle room) between (mid, new) r → ExplainsRows IsLine line_text AreSettlesLong before (old, new) r
-lines_stop room before between old mid new NoMemory e h k = tt
+lines_stop room before between old mid new NoMemory e h k = k ∙ e
 lines_stop room before between old mid new (Stopped code) e h k = (k.0, settles_long room before between h k.1)
 lines_stop room before between old mid new (Failed Read) e h k = k ∙ ap (λ n. one_more n) e
 lines_stop room before between old mid new (Failed Write) e h k = k
@@ -307,7 +307,7 @@ behind_refused None after reads (BadLine n) h k = tt
 behind_refused (Some b) None reads (BadLine n) h k = absurd h
 behind_refused (Some b) (Some x) reads (BadLine n) h k =
     subst (λ o. IsRefusalBehind o b (errors.BadLine n)) (sym (ap (behind header) h ∙ behind-append header x)) k
-behind_refused known after reads NoMemory h k = tt
+behind_refused known after reads NoMemory h k = k
 behind_refused known after reads (Failed Read) h k = k
 behind_refused known after reads (Failed Write) h k = k
 behind_refused known after reads (Failed Closed) h k = k
@@ -321,7 +321,7 @@ lines_refused None after reads (BadLine n) h k = tt
 lines_refused (Some b) None reads (BadLine n) h k = absurd h
 lines_refused (Some b) (Some x) reads (BadLine n) h k =
     subst (λ o. IsRefusalBehind o b (errors.BadLine n)) (sym h.1) (subst (λ z. IsBadAt IsLine line_text z n) h.0 k)
-lines_refused known after reads NoMemory h k = tt
+lines_refused known after reads NoMemory h k = k
 lines_refused known after reads (Failed Read) h k = k
 lines_refused known after reads (Failed Write) h k = k
 lines_refused known after reads (Failed Closed) h k = k

@@ -257,7 +257,7 @@ over_long room line rest b o h e = record {
 -- the refusal of a read is one of the line
 pub unread : (over : List ℕ → Type 0) (known : Option (List ℕ)) (old mid new : ℕ) (r : CommandRefusal) → mid ≡ old → IsReadRefusal (mid, new) r →
     IsLineRefusal over known (old, new) r
-unread over known old mid new NoMemory e k = tt
+unread over known old mid new NoMemory e k = k ∙ e
 unread over known old mid new (Failed Read) e k = k ∙ ap (λ n. one_more n) e
 unread over known old mid new (Failed Write) e k = k
 unread over known old mid new (Failed Closed) e k = k
@@ -266,31 +266,31 @@ unread over known old mid new (Stopped code) e k = absurd k
 unread over known old mid new (BadLine n) e k = k
 unread over known old mid new (WrongJob n) e k = k
 
--- and so is that of what a line says
-of_said : (over : List ℕ → Type 0) (room : ℕ) (known : Option (List ℕ)) (line : List ℕ) (reads : Counts) (r : CommandRefusal) →
+-- and so is that of what a line says, where no read failed
+of_said : (over : List ℕ → Type 0) (room : ℕ) (known : Option (List ℕ)) (line : List ℕ) (reads : Counts) (r : CommandRefusal) → reads.1 ≡ reads.0 →
     (IsSettleOver room line → IfSome known over) → IsSettleRefusal room line r → IsLineRefusal over known reads r
-of_said over room known line reads NoMemory f k = tt
-of_said over room known line reads (Stopped code) f k = (k.0, f k.1)
-of_said over room known line reads (Failed failure) f k = absurd k
-of_said over room known line reads (At code span) f k = k
-of_said over room known line reads (BadLine n) f k = k
-of_said over room known line reads (WrongJob n) f k = k
+of_said over room known line reads NoMemory unfailed f k = unfailed
+of_said over room known line reads (Stopped code) unfailed f k = (k.0, f k.1)
+of_said over room known line reads (Failed failure) unfailed f k = absurd k
+of_said over room known line reads (At code span) unfailed f k = k
+of_said over room known line reads (BadLine n) unfailed f k = k
+of_said over room known line reads (WrongJob n) unfailed f k = k
 
-pub said_over : (room : ℕ) (before after : Option (List ℕ)) (line shown : List ℕ) (reads : Counts) (r : CommandRefusal) → shown ≡ line →
+pub said_over : (room : ℕ) (before after : Option (List ℕ)) (line shown : List ℕ) (reads : Counts) (r : CommandRefusal) → reads.1 ≡ reads.0 → shown ≡ line →
     IfKnown before after (λ b r. IsRow line b r × (is_passed line ≡ false)) → IsSettleRefusal room shown r →
     IsLineRefusal (IsLongSettle room) before reads r
-said_over room before after line shown reads r same_line h k =
-    of_said (IsLongSettle room) room before line reads r
+said_over room before after line shown reads r unfailed same_line h k =
+    of_said (IsLongSettle room) room before line reads r unfailed
     (λ o. of_known before after (λ b r. IsRow line b r × (is_passed line ≡ false)) (IsLongSettle room) h
     (λ b r p. over_long room line (10 ∷ r) b o p.0.in_a_line p.0.are))
     (subst (λ z. IsSettleRefusal room z r) same_line k)
 
 -- a settle that goes on and ends with its line feed
 pub feed_over : (room : ℕ) (before after : Option (List ℕ)) (begun line shown : List ℕ) (end : LineEnd) (reads : Counts) (r : CommandRefusal) →
-    end ≡ ends.Feed → shown ≡ line → IfKnown before after (IsLineRead room begun line end) → IsSettleRefusal room shown r →
+    reads.1 ≡ reads.0 → end ≡ ends.Feed → shown ≡ line → IfKnown before after (IsLineRead room begun line end) → IsSettleRefusal room shown r →
     IsLineRefusal (GoesOnLong room begun) before reads r
-feed_over room before after begun line shown end reads r is_feed same_line h k =
-    of_said (GoesOnLong room begun) room before line reads r
+feed_over room before after begun line shown end reads r unfailed is_feed same_line h k =
+    of_said (GoesOnLong room begun) room before line reads r unfailed
     (λ o. of_known before after (IsLineRead room begun line ends.Feed) (GoesOnLong room begun)
     (subst (λ x. IfKnown before after (IsLineRead room begun line x)) is_feed h)
     (λ b r p whole q. over_long room line (10 ∷ r) whole o
@@ -320,7 +320,7 @@ cut_over room before after begun line x end is_cut some h =
 pub long_over : (room : ℕ) (before between : Option (List ℕ)) (begun : List ℕ) (old mid new : ℕ) (r : CommandRefusal) → mid ≡ old →
     IfKnown before between (IsCut 70 begun) → IsLineRefusal (GoesOnLong room begun) between (mid, new) r →
     IsLineRefusal (IsLongSettle room) before (old, new) r
-long_over room before between begun old mid new NoMemory e h k = tt
+long_over room before between begun old mid new NoMemory e h k = k ∙ e
 long_over room None between begun old mid new (Stopped code) e h k = (k.0, tt)
 long_over room (Some b) None begun old mid new (Stopped code) e h k = absurd h
 long_over room (Some b) (Some m) begun old mid new (Stopped code) e h k = (k.0, k.1 b h)

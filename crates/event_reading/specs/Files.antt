@@ -68,10 +68,11 @@ pub record AreSettlesLong (bytes : List ℕ) : Type 0 where
   pub is_room : room + settled says ≡ 1048576
   pub next : IsLongSettle room rest
 
--- why lines are refused: the first that is none of the format, or more than is kept, as `long` tells, or a read failed
+-- why lines are refused: the first that is none of the format, or more than is kept, as `long` tells; or want of memory, where no read
+-- failed; or a failed read
 abbrev pub ExplainsRows : {A : Type 0} → (A → Type 0) → (A → List ℕ) → (List ℕ → Type 0) → Option (List ℕ) → Counts → CommandRefusal → Type 0
 ExplainsRows is text long bytes reads (BadLine n) = IfSome bytes (λ b. IsBadAt is text b n)
-ExplainsRows is text long bytes reads NoMemory = Unit {0}
+ExplainsRows is text long bytes reads NoMemory = reads.1 ≡ reads.0
 ExplainsRows is text long bytes reads (Failed Read) = FailedIn reads
 ExplainsRows is text long bytes reads (Failed Write) = ⊥
 ExplainsRows is text long bytes reads (Failed Closed) = ⊥
@@ -82,7 +83,7 @@ ExplainsRows is text long bytes reads (WrongJob n) = ⊥
 -- why what stands behind the first line of format 2 is refused; its lines are counted from 2
 abbrev pub ExplainsBehind : Option (List ℕ) → Counts → CommandRefusal → Type 0
 ExplainsBehind bytes reads (BadLine n) = IfSome bytes (λ b. IsRecordedRefusal b (errors.BadLine n))
-ExplainsBehind bytes reads NoMemory = Unit {0}
+ExplainsBehind bytes reads NoMemory = reads.1 ≡ reads.0
 ExplainsBehind bytes reads (Failed Read) = FailedIn reads
 ExplainsBehind bytes reads (Failed Write) = ⊥
 ExplainsBehind bytes reads (Failed Closed) = ⊥
@@ -113,7 +114,7 @@ pub record AreEventsKept (bytes : List ℕ) (k : KeptEvents) : Type 0 where
 -- why an event file is refused: of format 2 nothing is too long
 abbrev pub ExplainsFile : Option (List ℕ) → Counts → CommandRefusal → Type 0
 ExplainsFile bytes reads (BadLine n) = IfSome bytes (λ b. IsFileRefusal b (errors.BadLine n))
-ExplainsFile bytes reads NoMemory = Unit {0}
+ExplainsFile bytes reads NoMemory = reads.1 ≡ reads.0
 ExplainsFile bytes reads (Failed Read) = FailedIn reads
 ExplainsFile bytes reads (Failed Write) = ⊥
 ExplainsFile bytes reads (Failed Closed) = ⊥

@@ -51,9 +51,9 @@ pub record IsRestOfLine (end : LineEnd) (taken b r : List ℕ) : Type 0 where
   pub are : IsTakenTo end taken b r
   pub in_a_line : has 10 taken ≡ false
 
--- why there is no byte
+-- why there is no byte: want of memory, where no read failed, or a failed read
 abbrev pub IsReadRefusal : Counts → CommandRefusal → Type 0
-IsReadRefusal reads NoMemory = Unit {0}
+IsReadRefusal reads NoMemory = reads.1 ≡ reads.0
 IsReadRefusal reads (Failed Read) = FailedIn reads
 IsReadRefusal reads (Failed Write) = ⊥
 IsReadRefusal reads (Failed Closed) = ⊥

@@ -107,9 +107,9 @@ IsSettleRefusal room line (At code span) = ⊥
 IsSettleRefusal room line (BadLine n) = ⊥
 IsSettleRefusal room line (WrongJob n) = ⊥
 
--- why there is no next line; `over` tells of what is left that there is no room for it
+-- why there is no next line: want of memory, where no read failed; or a failed read; `over` tells of what is left that there is no room for it
 abbrev pub IsLineRefusal : (List ℕ → Type 0) → Option (List ℕ) → Counts → CommandRefusal → Type 0
-IsLineRefusal over bytes reads NoMemory = Unit {0}
+IsLineRefusal over bytes reads NoMemory = reads.1 ≡ reads.0
 IsLineRefusal over bytes reads (Stopped code) = (code ≡ 41) × IfSome bytes over
 IsLineRefusal over bytes reads (Failed Read) = FailedIn reads
 IsLineRefusal over bytes reads (Failed Write) = ⊥

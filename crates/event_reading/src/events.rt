@@ -27,7 +27,8 @@ pub struct KeptEvents {
 /// Reads an event file of either format. Behind 100,001 events nothing is kept, and nothing of the lines that are passed over.
 ///
 /// Else the refusal says why: `BadLine` with the number of the first line that is none of its format, behind which nothing is read; `Stopped` with
-/// 41 where settle lines have more than `MOST_SETTLED` bytes, behind which nothing is read either; `NoMemory`; or `Failed` where a read failed.
+/// 41 where settle lines have more than `MOST_SETTLED` bytes, behind which nothing is read either; `NoMemory`
+/// where no read failed; or `Failed` where one did.
 pub fn read_event_file<R: Source>(
     alloc: Global,
     reader: &mut R,

@@ -48,7 +48,8 @@ pub fn lines_left<R: Source>(
 /// Reads a file of format 1. Behind 100,001 events nothing is kept, and nothing of the lines that are passed over.
 ///
 /// Else the refusal says why: `BadLine` with the number of the first line that is none of format 1, behind which nothing is read; `Stopped` with
-/// 41 where settle lines have more than `MOST_SETTLED` bytes, behind which nothing is read either; `NoMemory`; or `Failed` where a read failed.
+/// 41 where settle lines have more than `MOST_SETTLED` bytes, behind which nothing is read either; `NoMemory`
+/// where no read failed; or `Failed` where one did.
 pub fn read_lines<R: Source>(alloc: Global, reader: &mut R) -> Result<Kept<Line>, CommandRefusal>
     ensures read { IfOk result (λ kept. IfSome (R.left reader.old) (λ bytes. AreLinesKept bytes kept)) }
     ensures refused { IfErr result (ExplainsRows IsLine line_text AreSettlesLong (R.left reader.old) (R.failures reader.old, R.failures reader.new)) }

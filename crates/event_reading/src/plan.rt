@@ -46,7 +46,8 @@ fn plan_left<R: Source>(
 /// Reads a plan. Nothing is kept of the lines that are passed over.
 ///
 /// Else the refusal says why: `BadLine` with the number of the first line that is none of a plan, behind which nothing is read; `Stopped` with 41
-/// where there are more than `MOST_PLANNED` lines that say something, behind which nothing is read either; `NoMemory`; or `Failed` where a read failed.
+/// where there are more than `MOST_PLANNED` lines that say something, behind which nothing is read either; `NoMemory`
+/// where no read failed; or `Failed` where one did.
 pub fn read_plan_file<R: Source>(alloc: Global, reader: &mut R) -> Result<RunPlan, CommandRefusal>
     ensures read { IfOk result (λ plan. IfSome (R.left reader.old) (λ bytes. IsFile IsPlanLine plan_line_text bytes plan.lines)) }
     ensures refused { IfErr result (ExplainsRows IsPlanLine plan_line_text IsPlanLong (R.left reader.old)

@@ -17,8 +17,8 @@ returns-in-Nothing-clause-next g c =
 pub returns-in_err-next-in-Feed-clause-refused : goal.returns-in_err-next-in-Feed-clause-refused
 returns-in_err-next-in-Feed-clause-refused g c =
     let why = feed_over c.args.room.now _ _ c.args.begun.items c.read_on.new.line.items c.as_slice-in-Feed.result.now c.in_ok-read_on.field-0
-    (g.R.Source.failures c.args.reader.now, g.R.Source.failures c.read_on.new.reader) _ c.in-Feed.is c.as_slice-in-Feed.ensures.value
-    c.in_ok-read_on.ensures.read c.in_err-next-in-Feed.ensures.refused in
+    (g.R.Source.failures c.args.reader.now, g.R.Source.failures c.read_on.new.reader) _ c.in_ok-read_on.ensures.unfailed c.in-Feed.is
+    c.as_slice-in-Feed.ensures.value c.in_ok-read_on.ensures.read c.in_err-next-in-Feed.ensures.refused in
     search (rules, why)
 
 pub returns-clause-refused : goal.returns-clause-refused

@@ -25,6 +25,6 @@ returns-in_err-next-in-Whole-clause-refused g c =
     let row = subst (λ w. IfKnown (left_of c.args.ahead.now.items (g.R.Source.left c.args.reader.now))
     (left_of c.next_row.new.ahead.items (g.R.Source.left c.next_row.new.reader)) (IsNextRow 70 w)) c.in-Whole.is c.in_ok-next_row.ensures.row in
     let why = said_over c.args.room.now _ _ c.in-Whole.line.items c.as_slice.result.now
-    (g.R.Source.failures c.args.reader.now, g.R.Source.failures c.next_row.new.reader) _ c.as_slice.ensures.value row
-    c.in_err-next-in-Whole.ensures.refused in
+    (g.R.Source.failures c.args.reader.now, g.R.Source.failures c.next_row.new.reader) _ c.in_ok-next_row.ensures.unfailed
+    c.as_slice.ensures.value row c.in_err-next-in-Whole.ensures.refused in
     search (rules, why)

@@ -5,4 +5,3 @@ mod lists;
 mod texts;
 
 pub use lists::{read_event_list, read_first_format, read_plan_list};
-pub use texts::{events_text, lines_text, plan_text};

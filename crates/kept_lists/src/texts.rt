@@ -158,7 +158,7 @@ fn write_file(text: &mut String, says: &EventFile, numbers: &[usize]) -> Result<
 
 /// What was kept of an event file, as a text of its format, each line in the line of its number; between them stand empty lines. Where it was kept of
 /// some file's bytes, the text is a file that says it, in lines of the same numbers. The only error is want of memory.
-pub fn events_text(alloc: Global, kept: &KeptEvents) -> Result<String, AllocError>
+pub(crate) fn events_text(alloc: Global, kept: &KeptEvents) -> Result<String, AllocError>
     ensures { IfOk result (λ text. (bytes : List ℕ) → AreEventsKept bytes kept.now → SaysKept kept.now (string_bytes text)) }
 {
     lines_are_numbered();
@@ -169,7 +169,7 @@ pub fn events_text(alloc: Global, kept: &KeptEvents) -> Result<String, AllocErro
 }
 
 /// The same of a file of format 1.
-pub fn lines_text(alloc: Global, kept: &Kept<Line>) -> Result<String, AllocError>
+pub(crate) fn lines_text(alloc: Global, kept: &Kept<Line>) -> Result<String, AllocError>
     ensures { IfOk result (λ text. (bytes : List ℕ) → AreLinesKept bytes kept.now → SaysLines kept.now (string_bytes text)) }
 {
     lines_are_numbered();
@@ -195,7 +195,7 @@ fn write_plan(text: &mut String, lines: &[PlanLine]) -> Result<(), AllocError>
 
 /// A plan as a text, a line for each that says something. Where it was read of some file's bytes, the text is a plan that says the same. The only
 /// error is want of memory.
-pub fn plan_text(alloc: Global, plan: &RunPlan) -> Result<String, AllocError>
+pub(crate) fn plan_text(alloc: Global, plan: &RunPlan) -> Result<String, AllocError>
     ensures { IfOk result (λ text. (bytes : List ℕ) → IsFile IsPlanLine plan_line_text bytes plan.now.lines →
         IsFile IsPlanLine plan_line_text (string_bytes text) plan.now.lines) }
 {

@@ -31,7 +31,7 @@ CHAPTERS = [
     ("The law", {
         "report_laws/Serial": "What `serial` says of a script: a line for each print, and the line of its end.",
         "report_laws/Begins": "The law: a text begins with the whole of that, or with the lines of first prints and then `main open` or a fault with its cause.",
-        "run_commands/Reports": "The law is of reports as text and as JSON; of the other forms it says nothing.",
+        "run_commands/Reports": "The law is of reports, as text, with or without the books or a summary, and as JSON; of the other forms it says nothing.",
         "script_commands/Scripts": "A text is a script where it reads as a program that the rules allow, and that becomes the script.",
         "script_commands/SerialReports": "`serial` writes exactly what it says of the script.",
     }),

@@ -43,7 +43,7 @@ pub record MayBeReplayed (log : List Entry) (events : List RecordedEvent) : Type
   pub once : HandsInOnce log
   pub few : length events ≤ 100000
 
--- `sim` of the history may replay it, on that cluster; and whatever comes of a replay is this run, with this log, and so this report
+-- `sim` of the history may replay it, on that cluster; and whatever comes of a replay is this run, with this log
 pub record ReplaysTo (script : Script) (size : Size) (run : RunState) : Type 0 where
   pub again : Play
   pub replays : PlaysFile script (files.Recorded (recorded_in run.log)) (first_play size) again

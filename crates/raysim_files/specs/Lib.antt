@@ -1,1 +1,3 @@
 pub mod Clashes
+pub mod Errors
+pub mod Paths

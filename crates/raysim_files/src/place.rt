@@ -2,6 +2,7 @@
 
 ghost use Rattle.std.specs.Prelude.{◌↔◌, IsTrue};
 ghost use Rattle.raysim_files.specs.Clashes.{IsOneFile};
+ghost use Rattle.raysim_files.specs.Paths.{IsSplit};
 
 use std::fs;
 use std::io::ErrorKind;
@@ -47,7 +48,9 @@ pub(crate) fn is_one_file(one: &FilePlace<'_>, other: &FilePlace<'_>) -> bool
 }
 
 /// The folder of a path, and the name in it, which may be empty.
-pub(crate) fn split(path: &str) -> (&str, &str) {
+pub(crate) fn split(path: &str) -> (&str, &str)
+    ensures { IsSplit path.now result.0.now result.1.now }
+{
     match path.rsplit_once('/') {
         Some(("", name)) => ("/", name),
         Some((folder, name)) => (folder, name),

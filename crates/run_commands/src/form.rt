@@ -30,7 +30,7 @@ use summary_text::summary_text;
 use timeline::timeline_json;
 use why_text::why_text;
 
-/// What is written of a run. Those behind the third are of docs/reading-a-log.md; with `Contents::Cut` their long lists are cut.
+/// What is written of a run. Those behind the third are of docs/reading-a-log.md and docs/state.md; with `Contents::Cut` their long lists are cut.
 #[derive(Clone, Copy, PartialEq, Eq, Debug)]
 pub enum Form {
     /// Its report, in lines.

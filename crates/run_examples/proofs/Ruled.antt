@@ -37,7 +37,7 @@ use Rattle.run_examples.specs.Examples.{BooksAreTrue, LimitsAreTrue, OpeningIsNo
 -- ---- what events add
 
 -- an event adds itself first
-adds_itself : (e : Event) (seat : ℕ) (a : Answer) → (es : List Entry) × (logged e seat a ≡ In e seat ∷ es)
+pub adds_itself : (e : Event) (seat : ℕ) (a : Answer) → (es : List Entry) × (logged e seat a ≡ In e seat ∷ es)
 adds_itself e seat (Takes step) = (step.entries, refl)
 adds_itself e seat (Refuses code) = (Refused code ∷ [], refl)
 

@@ -46,6 +46,16 @@ pub record OverIsTrue : Type 0 where
   pub limited : (script : Script) (is_open : Bool) (plan : List PlanLine) (size : Size) (r : RunState) → IsOverBeside script is_open plan size r →
       r.log ≡ early_limit → ⊥
 
+-- a plan with one line: behind the first commit a node joins
+abbrev pub late_join : List PlanLine
+late_join = record { commits = 1; event = Join } ∷ []
+
+-- a run that is over beside it doesn't begin with the join, though it has that one event from outside: main's first job is given out before
+abbrev pub PlansAreTrue : Type 0
+PlansAreTrue =
+    (script : Script) (size : Size) → IsCluster size → (r : RunState) → IsOverBeside script false late_join size r →
+    (seat : ℕ) (after : List Entry) → r.log ≡ opening ++ In Join seat ∷ after → ⊥
+
 -- a tick from a third seat
 abbrev pub from_third : List Entry
 from_third = opening ++ In (Tick 1) 3 ∷ Refused Limit ∷ []

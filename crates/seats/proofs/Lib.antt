@@ -8,7 +8,9 @@ pub mod Jobs
 mod Limited
 mod Outside
 mod Owed
+mod Passing
 mod Planned
+mod Ruled
 mod Seen
 pub mod Seated
 mod Sizes

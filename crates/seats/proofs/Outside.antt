@@ -1,13 +1,11 @@
 -- The events from outside in a log, behind each event.
 use Rattle.std.proofs.Common.{◌≡◌, ◌⊎◌, ℕ, true, false, Bool, List, [], ◌∷◌, ◌++◌, Option, Some, None, refl, sym, ap, ◌∙◌, subst, inl, inr}
-use Rattle.std.specs.Prelude.{if◌then◌else◌, slice_get}
+use Rattle.std.specs.Prelude.{if◌then◌else◌}
 use Rattle.std.proofs.lemmas.List.{append-nil}
 use Rattle.std.proofs.lemmas.List.Concat.{flat_map-append}
 use Rattle.std.proofs.lemmas.List.Elements.{filter-append}
 use Rattle.segment.specs.Jobs.{Done}
-use Rattle.event_files.specs.declared.plan.PlanLine.{PlanLine}
-use Rattle.event_log.specs.Books.{totals_of}
-use Rattle.event_log.specs.Entries.{Entry, Event, Claim, Commit, Deliver, Tick, Notice, NoticeNode, Evict, Lose, Kill, KillNode, Join, In, Refused}
+use Rattle.event_log.specs.Entries.{Entry, Event, In, Refused}
 use Rattle.event_log.specs.Entries.{Limit}
 use Rattle.event_log.specs.Legal.{has_event, opening}
 use Rattle.event_log.specs.Words.{came_in, events}
@@ -18,14 +16,14 @@ use Rattle.protocol.specs.Answers as answers
 use Rattle.protocol.specs.Events.{happens}
 use Rattle.protocol.specs.Jobs.{CommitInput}
 use Rattle.protocol.specs.Refusals.{is_within_limits, refusal}
-use Rattle.protocol.specs.Settling.{next}
 use Rattle.protocol.specs.Cluster.{ClusterState}
 use Rattle.protocol_owed.proofs.Counting.{happens-counted, no_event}
 use Rattle.run_paths.specs.of_protocol_board.Cores.{RunState, Reply, Refuses, Answers, Follows}
 use Rattle.seats.specs.Ends.{first_events}
-use Rattle.seats.specs.Outside.{HasNoOther, IsTurn, KeepsToThem, MayApply, Passes, is_outside, outside}
-use Rattle.seats.specs.Turns.{Choice, Does, Ends, KeepsOut, TurnState, busy, choice, due, given_up_by, or_claim, or_first, or_message, or_plan, or_wait}
+use Rattle.seats.specs.Outside.{HasNoOther, KeepsToThem, Passes, is_outside, outside}
+use Rattle.seats.specs.Turns.{KeepsOut, TurnState, given_up_by, or_first}
 use Rattle.seats.specs.declared.outs.JobOut.{JobOut}
+use Rattle.seats.proofs.Passing.{IsAllowed, IsPast, past_of}
 use Rattle.seats.proofs.Planned.{past_events, plans_line}
 
 -- ---- the events of the log
@@ -92,71 +90,6 @@ goes_on is_open es es_now before after e seat done told more answers h = by_halt
     by_halt true f = subst (λ t. KeepsToThem is_open es_now after.log (given_up_by t None)) (sym (answers.halted f).1) tt
     by_halt false f = follows (answers.follows f)
 
--- ---- what a turn does of itself
-
-abbrev done_event : Event → Choice → Event
-done_event other (Does e) = e
-done_event other _ = other
-
-own_last : (o : Option Event) (slot : Option PlanLine) (e : Event) → or_wait o (or_plan slot Ends) ≡ Does e → is_outside e ≡ false
-own_last None None e h = absurd cc
-own_last None (Some line) e h = absurd cc
-own_last (Some (Commit j)) slot e h = absurd cc
-own_last (Some x) None e h = absurd cc
-own_last (Some x) (Some line) e h = absurd cc
-
-own_claim : (o first : Option Event) (slot : Option PlanLine) (e : Event) → or_claim o (or_wait first (or_plan slot Ends)) ≡ Does e → is_outside e ≡ false
-own_claim (Some (Claim w)) first slot e h = sym (ap is_outside (ap (done_event e) h))
-own_claim None first slot e h = own_last first slot e h
-own_claim (Some x) first slot e h = own_last first slot e h
-
-own_plan : (o : Option PlanLine) (other : Choice) (e : Event) → (other ≡ Does e → is_outside e ≡ false) → or_plan o other ≡ Does e → is_outside e ≡ false
-own_plan None other e next h = next h
-own_plan (Some line) other e next h = absurd cc
-
-own_message : (o : Option Event) (other : Choice) (e : Event) → (other ≡ Does e → is_outside e ≡ false) → or_message o other ≡ Does e → is_outside e ≡ false
-own_message (Some (Deliver k)) other e next h = sym (ap is_outside (ap (done_event e) h))
-own_message None other e next h = next h
-own_message (Some x) other e next h = next h
-
-does_own : (t : TurnState) (e : Event) → choice t ≡ Does e → is_outside e ≡ false
-does_own t e h =
-    let slot = slice_get t.plan t.taken in
-    let first = next t.run.whole [] in
-    let claim = next t.run.whole (busy t.out) in
-    let claims = or_claim claim (or_wait first (or_plan slot Ends)) in
-    let planned = or_plan (due (totals_of t.run.log).commits slot) claims in
-    own_message first planned e (own_plan (due (totals_of t.run.log).commits slot) claims e (own_claim claim first slot e)) h
-
-true_or_false : {A : Type 0} (b : Bool) → b ≡ false → b ≡ true → A
-true_or_false b f t = absurd cc
-
--- the event is the run's own, or the run is open
-abbrev IsAllowed : Bool → Event → Type 0
-IsAllowed is_open e = is_outside e ≡ true → is_open ≡ true
-
--- so is what a call may apply
-may_allowed : (is_open : Bool) (e : Event) (handed : Option Done) → MayApply is_open e handed → IsAllowed is_open e
-may_allowed is_open (Commit j) handed may = λ from_outside. true_or_false false refl from_outside
-may_allowed is_open (Claim w) handed may = λ from_outside. may
-may_allowed is_open (Deliver k) handed may = λ from_outside. may
-may_allowed is_open (Tick w) handed may = λ from_outside. may
-may_allowed is_open (Notice w v) handed may = λ from_outside. may
-may_allowed is_open (NoticeNode w n) handed may = λ from_outside. may
-may_allowed is_open (Evict n o) handed may = λ from_outside. may
-may_allowed is_open (Lose n o) handed may = λ from_outside. may
-may_allowed is_open (Kill w) handed may = λ from_outside. may
-may_allowed is_open (KillNode n) handed may = λ from_outside. may
-may_allowed is_open Join handed may = λ from_outside. may
-
--- and what a turn is to do
-turn_allowed : (is_open : Bool) (t : TurnState) (e : Event) (handed : Option Done) → IsTurn t e handed → IsAllowed is_open e
-turn_allowed is_open t e handed is = λ from_outside. true_or_false (is_outside e) (does_own t e is.0) from_outside
-
-allowed : (is_open : Bool) (t : TurnState) (e : Event) (done : Option Done) → MayApply is_open e done ⊎ IsTurn t e done → IsAllowed is_open e
-allowed is_open t e done (inl may) = may_allowed is_open e done may
-allowed is_open t e done (inr is) = turn_allowed is_open t e done is
-
 -- ---- by the lines that are taken
 
 closed_own : (b is_open : Bool) → (b ≡ true → is_open ≡ true) → is_open ≡ false → b ≡ false
@@ -168,12 +101,12 @@ own_more is_open es e may closed =
     let own : outside (e ∷ []) ≡ [] = ap (λ (b : Bool). if b then e ∷ [] else []) (closed_own (is_outside e) is_open may closed) in
     sym (ap (λ xs. outside es ++ xs) own ∙ append-nil (outside es))
 
-passes_more : (is_open : Bool) (t : TurnState) (e : Event) (done : Option Done) (taken : ℕ) → Passes is_open t e done taken →
+past_more : (is_open : Bool) (t : TurnState) (e : Event) (taken : ℕ) → IsPast is_open t e taken →
     IsMore is_open (first_events t.taken t.plan) (first_events taken t.plan) e
-passes_more is_open t e done taken (inl (same, may)) =
+past_more is_open t e taken (inl (same, may)) =
     subst (λ n. IsMore is_open (first_events t.taken t.plan) (first_events n t.plan) e) (sym same)
-    (own_more is_open (first_events t.taken t.plan) e (allowed is_open t e done may))
-passes_more is_open t e done taken (inr (same, chosen, free)) = λ closed.
+    (own_more is_open (first_events t.taken t.plan) e may)
+past_more is_open t e taken (inr (same, chosen, free)) = λ closed.
     ap (λ n. outside (first_events n t.plan)) same
     ∙ (ap outside (past_events t.plan t.taken e (plans_line t e chosen)) ∙ outside_more (first_events t.taken t.plan) e)
 
@@ -206,11 +139,11 @@ stays_so (Refuses refusals.NoMemory) x = refl
 stays_so told x = refl
 
 given_up : (is_open : Bool) (t : TurnState) (after : RunState) (e : Event) (seat : ℕ) (done : Option Done) (told : Reply) (taken : ℕ) (x : Refusal) →
-    t.given_up ≡ Some x → Passes is_open t e done taken → Answers t.run e seat done after told →
+    t.given_up ≡ Some x → IsPast is_open t e taken → Answers t.run e seat done after told →
     KeepsToThem is_open (first_events t.taken t.plan) t.run.log (Some x) → KeepsToThem is_open (first_events taken t.plan) after.log (Some x)
 given_up is_open t after e seat ran told taken x g (inl (same, may)) answers h =
     subst (λ n. KeepsToThem is_open (first_events n t.plan) after.log (Some x)) (sym same)
-    (own_keeps is_open (first_events t.taken t.plan) t.run after e seat ran told x (allowed is_open t e ran may) answers h)
+    (own_keeps is_open (first_events t.taken t.plan) t.run after e seat ran told x may answers h)
 given_up is_open t after e seat ran told taken x g (inr (same, chosen, free)) answers h =
     let bad : ◌≡◌ {A = Option Refusal} None (Some x) = sym free ∙ g in
     absurd (cc)
@@ -221,13 +154,16 @@ pub keeps_past : (is_open : Bool) (t : TurnState) (after : RunState) (e : Event)
     KeepsToThem is_open (first_events taken t.plan) after.log (given_up_by told t.given_up)
 keeps_past is_open t after e seat done told taken passes answers h = by_given t.given_up refl h
   where
+    past : IsPast is_open t e taken
+    past = past_of is_open t e done taken passes
+
     by_given : (g : Option Refusal) → t.given_up ≡ g → KeepsToThem is_open (first_events t.taken t.plan) t.run.log g →
         KeepsToThem is_open (first_events taken t.plan) after.log (given_up_by told g)
     by_given None f k =
-        goes_on is_open (first_events t.taken t.plan) (first_events taken t.plan) t.run after e seat done told (passes_more is_open t e done taken passes) answers k
+        goes_on is_open (first_events t.taken t.plan) (first_events taken t.plan) t.run after e seat done told (past_more is_open t e taken past) answers k
     by_given (Some x) f k =
         subst (KeepsToThem is_open (first_events taken t.plan) after.log) (sym (stays_so told x))
-        (given_up is_open t after e seat done told taken x f passes answers k)
+        (given_up is_open t after e seat done told taken x f past answers k)
 
 -- and where there is no memory to keep that a job is out
 pub keeps_kept : (is_open : Bool) (es : List Event) (log : List Entry) (e : Event) (told : Reply) (out : List JobOut) (g : Option Refusal)

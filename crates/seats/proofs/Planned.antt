@@ -17,6 +17,7 @@ use Rattle.seats.specs.Ends.{AreIn, Stands, first_events}
 use Rattle.seats.specs.Outside.{Passes}
 use Rattle.seats.specs.Turns.{Choice, Ends, Plans, TurnState, busy, choice, due, given_up_by, or_claim, or_message, or_plan, or_wait}
 use Rattle.seats.specs.Turns.{past_line}
+use Rattle.seats.proofs.Passing.{IsPast, past_of}
 use Rattle.seats.proofs.Standing.{in_last, limited_now, stands_behind}
 
 -- ---- which line it is
@@ -142,14 +143,19 @@ event_in es before after e seat done told answers h = by_halt before.is_halted r
 pub stands_past : (is_open : Bool) (t : TurnState) (after : RunState) (e : Event) (seat : ℕ) (done : Option Done) (told : Reply) (taken : ℕ) →
     Passes is_open t e done taken → Answers t.run e seat done after told → Stands (first_events t.taken t.plan) t.run.log t.given_up →
     Stands (first_events taken t.plan) after.log (given_up_by told t.given_up)
-stands_past is_open t after e seat done told taken (inl (same, may)) answers h =
-    subst (λ n. Stands (first_events n t.plan) after.log (given_up_by told t.given_up)) (sym same)
-    (stands_behind (first_events t.taken t.plan) t.run after e seat done told t.given_up answers h)
-stands_past is_open t after e seat done told taken (inr (same, chosen, free)) answers h =
-    let es = first_events t.taken t.plan in
-    let now : Stands (es ++ e ∷ []) after.log (given_up_by told None) =
-    event_in es t.run after e seat done told answers (subst (Stands es t.run.log) free h) in
-    let kept = subst (λ g. Stands (es ++ e ∷ []) after.log (given_up_by told g)) (sym free) now in
-    let through : first_events taken t.plan ≡ es ++ e ∷ [] =
-    ap (λ n. first_events n t.plan) same ∙ past_events t.plan t.taken e (plans_line t e chosen) in
-    subst (λ xs. Stands xs after.log (given_up_by told t.given_up)) (sym through) kept
+stands_past is_open t after e seat done told taken passes answers h = by_past (past_of is_open t e done taken passes)
+  where
+    es : List Event
+    es = first_events t.taken t.plan
+
+    by_past : IsPast is_open t e taken → Stands (first_events taken t.plan) after.log (given_up_by told t.given_up)
+    by_past (inl (same, may)) =
+        subst (λ n. Stands (first_events n t.plan) after.log (given_up_by told t.given_up)) (sym same)
+        (stands_behind es t.run after e seat done told t.given_up answers h)
+    by_past (inr (same, chosen, free)) =
+        let now : Stands (es ++ e ∷ []) after.log (given_up_by told None) =
+        event_in es t.run after e seat done told answers (subst (Stands es t.run.log) free h) in
+        let kept = subst (λ g. Stands (es ++ e ∷ []) after.log (given_up_by told g)) (sym free) now in
+        let through : first_events taken t.plan ≡ es ++ e ∷ [] =
+        ap (λ n. first_events n t.plan) same ∙ past_events t.plan t.taken e (plans_line t e chosen) in
+        subst (λ xs. Stands xs after.log (given_up_by told t.given_up)) (sym through) kept

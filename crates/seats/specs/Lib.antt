@@ -2,6 +2,7 @@ pub mod Counted
 pub mod Ends
 pub mod Outside
 pub mod Owed
+pub mod Ruled
 pub mod Seated
 pub mod Turns
 pub mod Views

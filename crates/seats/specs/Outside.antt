@@ -6,7 +6,8 @@ use Rattle.event_log.specs.Words.{events}
 use Rattle.log_entries.specs.declared.refusal.Refusal.{Refusal}
 use Rattle.log_entries.specs.declared.refusal.Refusal.TheVariants as refusals
 use Rattle.segment.specs.Jobs.{Done}
-use Rattle.seats.specs.Turns.{Does, Plans, TurnState, choice, past_line}
+use Rattle.seats.specs.Ruled.{HandsIn, IsRuled}
+use Rattle.seats.specs.Turns.{TurnState}
 
 -- claims, commits and deliveries are the run's own
 abbrev pub is_outside : Event → Bool
@@ -29,16 +30,10 @@ KeepsToThem is_open es log None = HasNoOther is_open es log
 KeepsToThem is_open es log (Some refusals.Limit) = HasNoOther is_open es log
 KeepsToThem is_open es log (Some refusal) = Unit {0}
 
--- a call may apply the event with what is handed in, if anything is: it commits what was done on a job; and any other where the run is open
+-- a call may apply the event with what is handed in, if anything is: it commits what was done on a job, or the run is open
 abbrev pub MayApply : Bool → Event → Option Done → Type 0
-MayApply is_open (Commit j) (Some d) = (j ≡ d.job.number) ⊎ (is_open ≡ true)
-MayApply is_open e handed = is_open ≡ true
+MayApply is_open e done = HandsIn e done ⊎ (is_open ≡ true)
 
--- it is what a turn is to do, with nothing handed in
-abbrev pub IsTurn : TurnState → Event → Option Done → Type 0
-IsTurn t e done = (choice t ≡ Does e) × (done ≡ None)
-
--- behind the event so many of the plan's lines are taken: those before it, where a call may apply it or a turn is to do it; or one more, whose event it is
+-- behind the event so many of the plan's lines are taken: as a turn or a job that is handed in has it, or the run is open and a call applies it
 abbrev pub Passes : Bool → TurnState → Event → Option Done → ℕ → Type 0
-Passes is_open t e done taken =
-    ((taken ≡ t.taken) × (MayApply is_open e done ⊎ IsTurn t e done)) ⊎ ((taken ≡ past_line t.plan t.taken) × (choice t ≡ Plans e) × (t.given_up ≡ None))
+Passes is_open t e done taken = IsRuled t e done taken ⊎ ((is_open ≡ true) × (taken ≡ t.taken))

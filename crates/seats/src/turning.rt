@@ -58,6 +58,7 @@ impl<S: ScriptName, P: RunName> Model for Turning<S, P> {
     ghost use Rattle.seats.specs.Ends.{GoesOn, IsWithinLimits, Stands, first_events};
     ghost use Rattle.seats.specs.Outside.{KeepsToThem};
     ghost use Rattle.seats.specs.Owed.{AreOut};
+    ghost use Rattle.seats.specs.Ruled.{StaysRuled};
     ghost use Rattle.seats.specs.Turns.{TurnState};
 
     ghost Value = { TurnState };
@@ -71,7 +72,9 @@ impl<S: ScriptName, P: RunName> Model for Turning<S, P> {
         × Stands (first_events t.taken t.plan) t.board.log t.given_up
         × KeepsToThem P.is_open (first_events t.taken t.plan) t.board.log t.given_up
         × Comes S.script (first_state P.size.nodes P.size.slots) t.board
-        × AreOut t.out t.board.log t.given_up × IsWithinLimits t.board.log t.given_up };
+        × AreOut t.out t.board.log t.given_up × IsWithinLimits t.board.log t.given_up
+        × StaysRuled S.script P.is_open P.plan P.size
+            (record { run = t.board; plan = t.plan; taken = t.taken; out = t.out; given_up = t.given_up }) t.given_up };
 }
 
 /// How many commits were accepted, behind one event more; no more than the log has entries.
@@ -262,6 +265,7 @@ impl<S: ScriptName, P: RunName> Turning<S, P> {
     /// The event of the run's own that was chosen.
     fn take(&mut self, alloc: Global, seat: u8, event: Event) -> Turn<Job<S>>
         requires chosen { choice self.old ≡ Does event }
+        requires goes_on { self.old.given_up ≡ None }
         ensures own { TurnGivesOwn self.new.run.log (told_of result) }
         ensures takes { Takes self.old event seat self.new (told_of result) }
         ensures counted { totals_of self.new.run.log ≡ plus (totals_of self.old.run.log) (turn_counted (told_of result)) }

@@ -1,4 +1,5 @@
 use Rattle.run_examples.proofs.Ruled.{books_are_true, limits_are_true, opening_is_not_over, over_is_true, seats_are_true}
+use Rattle.run_examples.proofs.Planned.{plans_are_true}
 use Rattle.run_examples.proofs.examples.examples.Goals as goal
 
 pub returns-clause-over : goal.returns-clause-over
@@ -15,3 +16,6 @@ returns-clause-seats c = seats_are_true
 
 pub returns-clause-books : goal.returns-clause-books
 returns-clause-books c = books_are_true
+
+pub returns-clause-plans : goal.returns-clause-plans
+returns-clause-plans c = plans_are_true

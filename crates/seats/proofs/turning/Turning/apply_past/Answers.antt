@@ -1,4 +1,4 @@
-use Rattle.std.proofs.Common.{◌≡◌, ◌+◌, ◌≤◌, ◌∙◌, sym, subst}
+use Rattle.std.proofs.Common.{◌≡◌, ◌+◌, ◌≤◌, ◌∙◌, refl, sym, subst}
 use Rattle.event_log.specs.Books.{totals_of}
 use Rattle.event_log.specs.Laws.{plus}
 use Rattle.run_paths.specs.of_protocol_board.Cores.{first_state, reply_of}
@@ -12,6 +12,7 @@ use Rattle.seats.proofs.Few.{commits_now, few_behind}
 use Rattle.seats.proofs.Outside.{keeps_kept, keeps_past}
 use Rattle.seats.proofs.Owed.{IsKept, kept_behind}
 use Rattle.seats.proofs.Planned.{stands_past}
+use Rattle.seats.proofs.Ruled.{ruled_behind}
 use Rattle.seats.proofs.Seated.{stays_from}
 use Rattle.seats.proofs.Sizes.{same_nodes, slots_behind, slots_kept}
 use Rattle.seats.proofs.Standing.{stands_kept}
@@ -37,6 +38,8 @@ invariant_of-self g c =
     let told = reply_of c.step-told.result in
     let is_open = g.P.RunName.is_open in
     let t : TurnState = record { run = before; plan = c.self.inside.plan; taken = c.self.inside.taken; out = c.self.inside.out; given_up = c.self.inside.given_up } in
+    let u : TurnState =
+    record { run = after; plan = c.self.inside.plan; taken = c.args.taken; out = c.keep_or_give_up.new.out; given_up = c.keep_or_give_up.new.given_up } in
     let es = first_events c.args.taken c.self.inside.plan in
     let h = answers_counted before after e c.args.seat c.args.done told c.self.invariant.0 c.step-told.ensures.answers in
     let out = c.keep_or_give_up.new.out in
@@ -64,6 +67,8 @@ invariant_of-self g c =
           c.args.seat c.args.done told c.self.invariant.7 c.attest.ensures c.step-told.ensures.answers,
       kept.jobs,
       kept.within,
+      ruled_behind g.S.ScriptName.script is_open g.P.RunName.plan g.P.RunName.size t u e c.args.seat c.args.done told c.args.taken passes c.attest.ensures
+          c.step-told.ensures.answers (record { plan = refl; taken = refl; kept = c.keep_or_give_up.ensures }) c.self.invariant.10,
     )
 
 -- the log's totals grow by what the event counts

@@ -5,6 +5,7 @@ use Rattle.seats.proofs.Came.{fresh_came}
 use Rattle.seats.proofs.Counted.{fresh_claims, fresh_seat_totals, fresh_totals}
 use Rattle.seats.proofs.Outside.{none_yet}
 use Rattle.seats.proofs.Owed.{IsKept, none_out_yet}
+use Rattle.seats.proofs.Ruled.{fresh_ruled}
 use Rattle.seats.proofs.Seated.{none_came_yet}
 use Rattle.seats.proofs.Standing.{none_in}
 use Rattle.seats.proofs.turning.Turning.new.Goals as goal
@@ -24,6 +25,8 @@ invariant_of-result g c =
           c.requires.named.1,
       kept.jobs,
       kept.within,
+      fresh_ruled c.none_came.ensures g.S.ScriptName.script g.P.RunName.is_open g.P.RunName.plan c.args.plan.lines g.P.RunName.size r c.new.result
+          c.log.ensures.meant.reached c.requires.fresh c.requires.named.1 c.requires.named.0 c.new.ensures,
     )
 
 pub returns-clause-totals : goal.returns-clause-totals

@@ -1,0 +1,5 @@
+use Rattle.seats.proofs.Passing.{call_passes}
+use Rattle.seats.proofs.turning.Turning.apply_as.Goals as goal
+
+pub apply_past-requires-clause-passes : goal.apply_past-requires-clause-passes
+apply_past-requires-clause-passes g c = call_passes g.P.RunName.is_open c.args.self.now c.args.event c.args.done c.requires.may

@@ -1,6 +1,6 @@
 // The command `migrate`: an event file of format 1, replayed and written as one of format 2.
 
-ghost use Rattle.std.specs.Prelude.{◌≡◌, ◌⊎◌, IfOk, IfErr, IfSome, string_bytes};
+ghost use Rattle.std.specs.Prelude.{◌≡◌, ◌⊎◌, IfOk, IfErr, IfSome, string_bytes, IsErrOf, OnOk};
 ghost use Rattle.script_check.specs.Trees.{script_of};
 ghost use Rattle.event_files.specs.Files.{IsFile};
 ghost use Rattle.event_files.specs.Lines.{IsLine, line_text};
@@ -23,6 +23,8 @@ use std::marker::Brand;
 fn read_lines<E: Source>(alloc: Global, reader: &mut E) -> Result<Seq<Line>, CommandRefusal>
     ensures read { IfOk result (λ lines. IfSome (E.left reader.old) (λ bytes. IsFile IsLine line_text bytes lines)) }
     ensures refused { IfErr result (λ refusal. ExplainsLines (E.left reader.old) (E.failures reader.old, E.failures reader.new) refusal) }
+    ensures memory { IsErrOf result CommandRefusal.NoMemory → E.failures reader.new ≡ E.failures reader.old }
+    ensures unfailed { OnOk result (E.failures reader.new ≡ E.failures reader.old) }
 {
     let text = match read_at_most(alloc, reader, usize::MAX) {
         Ok(text) => text,
@@ -52,6 +54,8 @@ fn read_inputs<R: Source, E: Source>(
     ensures lines { IfOk result (λ inputs. IfSome (E.left events.old) (λ bytes. IsFile IsLine line_text bytes inputs.lines)) }
     ensures refused { (size : Size) (writes : Counts) → IfErr result (λ refusal. ExplainsMigration size (R.left reader.old) (E.left events.old)
         (R.failures reader.old, R.failures reader.new) (E.failures events.old, E.failures events.new) writes refusal) }
+    ensures memory { IsErrOf result CommandRefusal.NoMemory → (R.failures reader.new ≡ R.failures reader.old) × (E.failures events.new ≡ E.failures events.old) }
+    ensures unfailed { OnOk result ((R.failures reader.new ≡ R.failures reader.old) × (E.failures events.new ≡ E.failures events.old)) }
 {
     one_bad_line();
     let script = match read_compiled(alloc, reader) {
@@ -115,6 +119,9 @@ pub fn migrate<R: Source, E: Source, W: Sink>(
         IsMigrated cluster text file (W.held writer.old) (W.held writer.new))) }
     ensures refused { IfErr result (λ refusal. ExplainsMigration cluster (R.left reader.old) (E.left events.old)
         (R.failures reader.old, R.failures reader.new) (E.failures events.old, E.failures events.new) (W.failures writer.old, W.failures writer.new) refusal) }
+    ensures memory { IsErrOf result CommandRefusal.NoMemory →
+        (R.failures reader.new ≡ R.failures reader.old) × (E.failures events.new ≡ E.failures events.old)
+        × (W.failures writer.new ≡ W.failures writer.old) }
     ensures unwritten { IfErr result (λ refusal. IsUnwritten refusal → W.held writer.new ≡ W.held writer.old) }
     ensures beginning { IfErr result (λ refusal. IfBoth (R.left reader.old) (E.left events.old) (λ text file.
         (W.held writer.new ≡ W.held writer.old) ⊎ IsMigrationBegun cluster text file (W.held writer.old) (W.held writer.new))) }

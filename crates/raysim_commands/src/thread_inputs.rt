@@ -1,6 +1,6 @@
 // What a run on threads reads.
 
-ghost use Rattle.std.specs.Prelude.{◌≡◌, IfOk, IfErr, IfSome};
+ghost use Rattle.std.specs.Prelude.{◌≡◌, IfOk, IfErr, IfSome, IsErrOf, OnOk};
 ghost use Rattle.script_check.specs.Trees.{script_of};
 ghost use Rattle.script_commands.specs.Scripts.{IsScript, IsUnwritten};
 ghost use Rattle.raysim_commands.specs.ThreadReports.{ExplainsInputs, ExplainsPlan, IsPlan};
@@ -23,6 +23,8 @@ pub struct Inputs {
 fn read_plan<P: Source>(alloc: Global, reader: &mut P) -> Result<RunPlan, CommandRefusal>
     ensures read { IfOk result (λ plan. IfSome (P.left reader.old) (λ bytes. IsPlan bytes plan.lines)) }
     ensures refused { IfErr result (λ refusal. ExplainsPlan (P.left reader.old) (P.failures reader.old, P.failures reader.new) refusal) }
+    ensures memory { IsErrOf result CommandRefusal.NoMemory → P.failures reader.new ≡ P.failures reader.old }
+    ensures unfailed { OnOk result (P.failures reader.new ≡ P.failures reader.old) }
 {
     let text = match read_at_most(alloc, reader, usize::MAX) {
         Ok(text) => text,
@@ -45,6 +47,8 @@ pub fn read_inputs<A: Source, P: Source>(
     ensures plan { IfOk result (λ inputs. IfSome (P.left plan.old) (λ bytes. IsPlan bytes inputs.plan.lines)) }
     ensures refused { IfErr result (λ refusal. ExplainsInputs (A.left reader.old) (P.left plan.old)
         (A.failures reader.old, A.failures reader.new) (P.failures plan.old, P.failures plan.new) refusal) }
+    ensures memory { IsErrOf result CommandRefusal.NoMemory → (A.failures reader.new ≡ A.failures reader.old) × (P.failures plan.new ≡ P.failures plan.old) }
+    ensures unfailed { OnOk result ((A.failures reader.new ≡ A.failures reader.old) × (P.failures plan.new ≡ P.failures plan.old)) }
 {
     let script = match read_compiled(alloc, reader) {
         Ok(script) => script,

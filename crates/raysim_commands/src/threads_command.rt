@@ -1,6 +1,6 @@
 // The command `run` on threads: a script run beside a plan, its history and its report.
 
-ghost use Rattle.std.specs.Prelude.{◌≡◌, ◌≤◌, IfOk, IfErr};
+ghost use Rattle.std.specs.Prelude.{◌≡◌, ◌≤◌, IfOk, IfErr, IsErrOf};
 ghost use Rattle.script_commands.specs.Scripts.{IsUnwritten};
 ghost use Rattle.run_commands.specs.SimReports.{IfBoth};
 ghost use Rattle.raysim_commands.specs.ThreadReports.{AreWritten, AreUnwritten, ExplainsThreads, IsBegun};
@@ -52,6 +52,8 @@ pub fn run_threaded<
     ensures refused { IfErr result (λ refusal. ExplainsThreads cluster threads (A.left reader.old) (P.left plan.old)
         (A.failures reader.old, A.failures reader.new) (P.failures plan.old, P.failures plan.new)
         (H.failures history.old, H.failures history.new) (W.failures writer.old, W.failures writer.new) refusal) }
+    ensures memory { IsErrOf result CommandRefusal.NoMemory → (A.failures reader.new ≡ A.failures reader.old) × (P.failures plan.new ≡ P.failures plan.old)
+        × (H.failures history.new ≡ H.failures history.old) × (W.failures writer.new ≡ W.failures writer.old) }
     ensures unwritten { IfErr result (λ refusal. IsUnwritten refusal →
         AreUnwritten (H.held history.old) (H.held history.new) (W.held writer.old) (W.held writer.new)) }
     ensures beginning { IfErr result (λ refusal. IfBoth (A.left reader.old) (P.left plan.old) (λ text bytes. IsBegun cluster threads form text bytes

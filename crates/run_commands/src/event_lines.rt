@@ -1,6 +1,6 @@
 // What an event file says, and in which lines.
 
-ghost use Rattle.std.specs.Prelude.{◌≡◌, IfOk, IfErr, IfSome, drop};
+ghost use Rattle.std.specs.Prelude.{◌≡◌, IfOk, IfErr, IfSome, drop, IsErrOf, OnOk};
 ghost use Rattle.run_commands.specs.SimReports.{AreEvents, ExplainsEvents, ExplainsList, lines_in_file, number_of, said_numbers};
 
 use event_files::{EventError, EventFile, line_numbers, parse_event_file};
@@ -84,6 +84,8 @@ pub fn event_lines(alloc: Global, text: &[u8]) -> Result<EventLines, CommandRefu
 pub fn read_events<E: Source>(alloc: Global, reader: &mut E) -> Result<EventLines, CommandRefusal>
     ensures read { IfOk result (λ events. IfSome (E.left reader.old) (λ bytes. AreEvents bytes events.says events.numbers)) }
     ensures refused { IfErr result (λ refusal. ExplainsEvents (E.left reader.old) (E.failures reader.old, E.failures reader.new) refusal) }
+    ensures memory { IsErrOf result CommandRefusal.NoMemory → E.failures reader.new ≡ E.failures reader.old }
+    ensures unfailed { OnOk result (E.failures reader.new ≡ E.failures reader.old) }
 {
     let text = match read_at_most(alloc, reader, usize::MAX) {
         Ok(text) => text,

@@ -1,6 +1,6 @@
 // The command `faults`: a run replayed again and again, each time with one fault more, and a table of what came of it.
 
-ghost use Rattle.std.specs.Prelude.{◌≡◌, ◌⊎◌, IfOk, IfErr, string_bytes};
+ghost use Rattle.std.specs.Prelude.{◌≡◌, ◌⊎◌, IfOk, IfErr, string_bytes, IsErrOf};
 ghost use Rattle.script_check.specs.Trees.{script_of};
 ghost use Rattle.script_commands.specs.Scripts.{IsUnwritten};
 ghost use Rattle.run_commands.specs.Faults.{AreFaultsIn, AreFaultsOf, AreFaultsTold, AreFaultsBegun};
@@ -118,6 +118,9 @@ pub fn faults<R: Source, E: Source, W: Sink, L: TrialWatcher>(
         AreFaultsTold cluster choice most text file faults (W.held writer.old) (W.held writer.new))) }
     ensures refused { IfErr result (λ refusal. ExplainsSim cluster (R.left reader.old) (E.left events.old)
         (R.failures reader.old, R.failures reader.new) (E.failures events.old, E.failures events.new) (W.failures writer.old, W.failures writer.new) refusal) }
+    ensures memory { IsErrOf result CommandRefusal.NoMemory →
+        (R.failures reader.new ≡ R.failures reader.old) × (E.failures events.new ≡ E.failures events.old)
+        × (W.failures writer.new ≡ W.failures writer.old) }
     ensures unwritten { IfErr result (λ refusal. IsUnwritten refusal → W.held writer.new ≡ W.held writer.old) }
     ensures beginning { IfErr result (λ refusal. IfBoth (R.left reader.old) (E.left events.old) (λ text file.
         (W.held writer.new ≡ W.held writer.old) ⊎ AreFaultsBegun cluster choice most text file (W.held writer.old) (W.held writer.new))) }

@@ -1,6 +1,6 @@
 // A run as a page for a browser.
 
-ghost use Rattle.std.specs.Prelude.{◌≡◌, ◌⊎◌, IfOk, IfErr, true};
+ghost use Rattle.std.specs.Prelude.{◌≡◌, ◌⊎◌, IfOk, IfErr, true, IsErrOf};
 ghost use Rattle.script_check.specs.Trees.{script_of};
 ghost use Rattle.script_tokens.specs.Bytes.{all, is_ascii};
 ghost use Rattle.script_commands.specs.Scripts.{IsUnwritten};
@@ -105,6 +105,9 @@ pub fn page<R: Source, E: Source, W: Sink>(
         IsPageWritten cluster contents text file status (W.held writer.old) (W.held writer.new))) }
     ensures refused { IfErr result (λ refusal. ExplainsSim cluster (R.left reader.old) (E.left events.old)
         (R.failures reader.old, R.failures reader.new) (E.failures events.old, E.failures events.new) (W.failures writer.old, W.failures writer.new) refusal) }
+    ensures memory { IsErrOf result CommandRefusal.NoMemory →
+        (R.failures reader.new ≡ R.failures reader.old) × (E.failures events.new ≡ E.failures events.old)
+        × (W.failures writer.new ≡ W.failures writer.old) }
     ensures unwritten { IfErr result (λ refusal. IsUnwritten refusal → W.held writer.new ≡ W.held writer.old) }
     ensures beginning { IfErr result (λ refusal. IfBoth (R.left reader.old) (E.left events.old) (λ text file.
         (W.held writer.new ≡ W.held writer.old) ⊎ IsPageBegun cluster contents text file (W.held writer.old) (W.held writer.new))) }

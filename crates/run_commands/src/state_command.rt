@@ -1,6 +1,6 @@
 // The state of a run behind one of its events.
 
-ghost use Rattle.std.specs.Prelude.{◌≡◌, ◌⊎◌, IfOk, IfErr, map, string_bytes, take};
+ghost use Rattle.std.specs.Prelude.{◌≡◌, ◌⊎◌, IfOk, IfErr, map, string_bytes, take, IsErrOf};
 ghost use Rattle.script_check.specs.Trees.{script_of};
 ghost use Rattle.fault_runs.specs.of_protocol_board.Cores.{IsSoundLog};
 ghost use Rattle.script_commands.specs.Scripts.{IsUnwritten};
@@ -134,6 +134,9 @@ pub fn state<R: Source, E: Source, W: Sink>(
         IsStateTold cluster at text file status (W.held writer.old) (W.held writer.new))) }
     ensures refused { IfErr result (λ refusal. ExplainsSim cluster (R.left reader.old) (E.left events.old)
         (R.failures reader.old, R.failures reader.new) (E.failures events.old, E.failures events.new) (W.failures writer.old, W.failures writer.new) refusal) }
+    ensures memory { IsErrOf result CommandRefusal.NoMemory →
+        (R.failures reader.new ≡ R.failures reader.old) × (E.failures events.new ≡ E.failures events.old)
+        × (W.failures writer.new ≡ W.failures writer.old) }
     ensures unwritten { IfErr result (λ refusal. IsUnwritten refusal → W.held writer.new ≡ W.held writer.old) }
     ensures beginning { IfErr result (λ refusal. IfBoth (R.left reader.old) (E.left events.old) (λ text file.
         (W.held writer.new ≡ W.held writer.old) ⊎ IsStateBegun cluster at text file (W.held writer.old) (W.held writer.new))) }

@@ -1,11 +1,10 @@
 -- What an event passes: a line of the plan, whose event it is, or none, and then it is the run's own, or the run is open.
-use Rattle.std.proofs.Common.{◌≡◌, ◌⊎◌, ℕ, true, false, Bool, Option, Some, None, refl, sym, ap, ◌∙◌, inl, inr}
+use Rattle.std.proofs.Common.{◌≡◌, ◌⊎◌, ℕ, true, false, Bool, Option, Some, None, refl, sym, ap, inl, inr}
 use Rattle.std.specs.Prelude.{slice_get, []}
 use Rattle.segment.specs.Jobs.{Done}
 use Rattle.event_files.specs.declared.plan.PlanLine.{PlanLine}
 use Rattle.event_log.specs.Books.{totals_of}
 use Rattle.event_log.specs.Entries.{Event, Claim, Commit, Deliver}
-use Rattle.log_entries.specs.declared.refusal.Refusal.{Refusal}
 use Rattle.protocol.specs.Settling.{next}
 use Rattle.seats.specs.Outside.{MayApply, Passes, is_outside}
 use Rattle.seats.specs.Ruled.{HandsIn, IsRuled}
@@ -74,13 +73,13 @@ ruled_past is_open t e done taken (inr (hands, same)) = inl (same, own_allowed i
 
 pub past_of : (is_open : Bool) (t : TurnState) (e : Event) (done : Option Done) (taken : ℕ) → Passes is_open t e done taken → IsPast is_open t e taken
 past_of is_open t e done taken (inl ruled) = ruled_past is_open t e done taken ruled
-past_of is_open t e done taken (inr (open, same)) = inl (same, λ from_outside. open)
+past_of is_open t e done taken (inr (opened, same)) = inl (same, λ from_outside. opened)
 
 -- ---- what passes
 
 pub call_passes : (is_open : Bool) (t : TurnState) (e : Event) (done : Option Done) → MayApply is_open e done → Passes is_open t e done t.taken
 call_passes is_open t e done (inl hands) = inl (inr (hands, refl))
-call_passes is_open t e done (inr open) = inr (open, refl)
+call_passes is_open t e done (inr opened) = inr (opened, refl)
 
 pub turn_passes : (is_open : Bool) (t : TurnState) (e : Event) → choice t ≡ Does e → t.given_up ≡ None → Passes is_open t e None t.taken
 turn_passes is_open t e chosen free = inl (inl (inl (chosen, refl), refl, free))

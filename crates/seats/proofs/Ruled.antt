@@ -1,5 +1,5 @@
 -- A run beside a plan stays one each of whose events was the one that a turn named, or handed in what was done on a job.
-use Rattle.std.proofs.Common.{◌≡◌, ◌⊎◌, ℕ, zero, suc, true, false, Bool, List, [], Option, Some, None, refl, sym, ap, ◌∙◌, subst, inl, inr}
+use Rattle.std.proofs.Common.{◌≡◌, ◌⊎◌, ℕ, suc, false, Bool, List, [], Option, Some, None, refl, sym, ap, ◌∙◌, subst, inl, inr}
 use Rattle.meaning.specs.Syntax.{Script}
 use Rattle.segment.specs.Jobs.{Done}
 use Rattle.event_files.specs.declared.plan.PlanLine.{PlanLine}
@@ -28,7 +28,7 @@ one_more script first t u e seat done told taken (n, way) ruled is_true answers 
 closed_ruled : (is_open : Bool) (t : TurnState) (e : Event) (done : Option Done) (taken : ℕ) → Passes is_open t e done taken → is_open ≡ false →
     IsRuled t e done taken
 closed_ruled is_open t e done taken (inl ruled) closed = ruled
-closed_ruled is_open t e done taken (inr (open, same)) closed = true_or_false is_open closed open
+closed_ruled is_open t e done taken (inr (opened, same)) closed = true_or_false is_open closed opened
 
 -- whatever the run is given up for
 for_any : (script : Script) (is_open : Bool) (plan : List PlanLine) (size : Size) (t : TurnState) (g : Option Refusal) →

@@ -4,7 +4,7 @@ use mathlib.Core.List.{IsPrefix}
 use Rattle.event_log.specs.Entries.{Entry, Event}
 use Rattle.kept_frames.specs.Known.{AllAgree, KeepsWith, KnownData}
 use Rattle.log_entries.specs.declared.refusal.Refusal.{Refusal}
-use Rattle.run_paths.specs.of_protocol_board.Cores.{Answers, IsOfLog, IsOwn, Reply, RunState}
+use Rattle.run_paths.specs.of_protocol_board.Cores.{Answers, IsOfLog, Reply, RunState}
 use Rattle.run_paths.specs.of_protocol_board.Own.{FramesAreOwn}
 use Rattle.run_paths.proofs.of_protocol_board.Own.{all_agree, frames_stay_own, job_stays_own, kept_with, longer}
 use Rattle.segment.specs.Jobs.{Done, JobParts}

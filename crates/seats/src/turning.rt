@@ -74,7 +74,7 @@ impl<S: ScriptName, P: RunName> Model for Turning<S, P> {
         × Comes S.script (first_state P.size.nodes P.size.slots) t.board
         × AreOut t.out t.board.log t.given_up × IsWithinLimits t.board.log t.given_up
         × StaysRuled S.script P.is_open P.plan P.size
-            (record { run = t.board; plan = t.plan; taken = t.taken; out = t.out; given_up = t.given_up }) t.given_up };
+        (record { run = t.board; plan = t.plan; taken = t.taken; out = t.out; given_up = t.given_up }) t.given_up };
 }
 
 /// How many commits were accepted, behind one event more; no more than the log has entries.

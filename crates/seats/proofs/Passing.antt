@@ -53,10 +53,10 @@ true_or_false b f t = absurd cc
 abbrev pub IsAllowed : Bool → Event → Type 0
 IsAllowed is_open e = is_outside e ≡ true → is_open ≡ true
 
--- so is what hands in what was done on a job
-hands_own : (e : Event) (done : Option Done) → HandsIn e done → is_outside e ≡ false
+-- so is what hands in what was handed on a job
+hands_own : (e : Event) (handed : Option Done) → HandsIn e handed → is_outside e ≡ false
 hands_own (Commit j) (Some d) h = refl
-hands_own e done h = absurd h
+hands_own e handed h = absurd h
 
 own_allowed : (is_open : Bool) (e : Event) → is_outside e ≡ false → IsAllowed is_open e
 own_allowed is_open e own = λ from_outside. true_or_false (is_outside e) own from_outside
@@ -66,20 +66,20 @@ abbrev pub IsPast : Bool → TurnState → Event → ℕ → Type 0
 IsPast is_open t e taken =
     ((taken ≡ t.taken) × IsAllowed is_open e) ⊎ ((taken ≡ past_line t.plan t.taken) × (choice t ≡ Plans e) × (t.given_up ≡ None))
 
-ruled_past : (is_open : Bool) (t : TurnState) (e : Event) (done : Option Done) (taken : ℕ) → IsRuled t e done taken → IsPast is_open t e taken
-ruled_past is_open t e done taken (inl (inl (chosen, same), bare, free)) = inl (same, own_allowed is_open e (does_own t e chosen))
-ruled_past is_open t e done taken (inl (inr (chosen, same), bare, free)) = inr (same, chosen, free)
-ruled_past is_open t e done taken (inr (hands, same)) = inl (same, own_allowed is_open e (hands_own e done hands))
+ruled_past : (is_open : Bool) (t : TurnState) (e : Event) (handed : Option Done) (taken : ℕ) → IsRuled t e handed taken → IsPast is_open t e taken
+ruled_past is_open t e handed taken (inl (inl (chosen, same), bare, free)) = inl (same, own_allowed is_open e (does_own t e chosen))
+ruled_past is_open t e handed taken (inl (inr (chosen, same), bare, free)) = inr (same, chosen, free)
+ruled_past is_open t e handed taken (inr (hands, same)) = inl (same, own_allowed is_open e (hands_own e handed hands))
 
-pub past_of : (is_open : Bool) (t : TurnState) (e : Event) (done : Option Done) (taken : ℕ) → Passes is_open t e done taken → IsPast is_open t e taken
-past_of is_open t e done taken (inl ruled) = ruled_past is_open t e done taken ruled
-past_of is_open t e done taken (inr (opened, same)) = inl (same, λ from_outside. opened)
+pub past_of : (is_open : Bool) (t : TurnState) (e : Event) (handed : Option Done) (taken : ℕ) → Passes is_open t e handed taken → IsPast is_open t e taken
+past_of is_open t e handed taken (inl ruled) = ruled_past is_open t e handed taken ruled
+past_of is_open t e handed taken (inr (opened, same)) = inl (same, λ from_outside. opened)
 
 -- ---- what passes
 
-pub call_passes : (is_open : Bool) (t : TurnState) (e : Event) (done : Option Done) → MayApply is_open e done → Passes is_open t e done t.taken
-call_passes is_open t e done (inl hands) = inl (inr (hands, refl))
-call_passes is_open t e done (inr opened) = inr (opened, refl)
+pub call_passes : (is_open : Bool) (t : TurnState) (e : Event) (handed : Option Done) → MayApply is_open e handed → Passes is_open t e handed t.taken
+call_passes is_open t e handed (inl hands) = inl (inr (hands, refl))
+call_passes is_open t e handed (inr opened) = inr (opened, refl)
 
 pub turn_passes : (is_open : Bool) (t : TurnState) (e : Event) → choice t ≡ Does e → t.given_up ≡ None → Passes is_open t e None t.taken
 turn_passes is_open t e chosen free = inl (inl (inl (chosen, refl), refl, free))

@@ -1,4 +1,4 @@
--- A run beside a plan stays one each of whose events was the one that a turn named, or handed in what was done on a job.
+-- A run beside a plan stays one each of whose events was the one that a turn named, or handed in what was handed on a job.
 use Rattle.std.proofs.Common.{◌≡◌, ◌⊎◌, ℕ, suc, false, Bool, List, [], Option, Some, None, refl, sym, ap, ◌∙◌, subst, inl, inr}
 use Rattle.meaning.specs.Syntax.{Script}
 use Rattle.segment.specs.Jobs.{Done}
@@ -19,16 +19,16 @@ use Rattle.seats.proofs.Passing.{true_or_false}
 
 -- ---- one event more
 
-one_more : (script : Script) (first t u : TurnState) (e : Event) (seat : ℕ) (done : Option Done) (told : Reply) (taken : ℕ) → Ruled script first t →
-    IsRuled t e done taken → IsTrueDone script done → Answers t.run e seat done u.run told → Follows (record t { taken = taken }) e told u → Ruled script first u
+one_more : (script : Script) (first t u : TurnState) (e : Event) (seat : ℕ) (handed : Option Done) (told : Reply) (taken : ℕ) → Ruled script first t →
+    IsRuled t e handed taken → IsTrueDone script handed → Answers t.run e seat handed u.run told → Follows (record t { taken = taken }) e told u → Ruled script first u
 unfolding RuledIn
-one_more script first t u e seat done told taken (n, way) ruled is_true answers follows =
-    (suc n, (t, e, seat, done, told, taken, way, ruled, is_true, answers, follows))
+one_more script first t u e seat handed told taken (n, way) ruled is_true answers follows =
+    (suc n, (t, e, seat, handed, told, taken, way, ruled, is_true, answers, follows))
 
-closed_ruled : (is_open : Bool) (t : TurnState) (e : Event) (done : Option Done) (taken : ℕ) → Passes is_open t e done taken → is_open ≡ false →
-    IsRuled t e done taken
-closed_ruled is_open t e done taken (inl ruled) closed = ruled
-closed_ruled is_open t e done taken (inr (opened, same)) closed = true_or_false is_open closed opened
+closed_ruled : (is_open : Bool) (t : TurnState) (e : Event) (handed : Option Done) (taken : ℕ) → Passes is_open t e handed taken → is_open ≡ false →
+    IsRuled t e handed taken
+closed_ruled is_open t e handed taken (inl ruled) closed = ruled
+closed_ruled is_open t e handed taken (inr (opened, same)) closed = true_or_false is_open closed opened
 
 -- whatever the run is given up for
 for_any : (script : Script) (is_open : Bool) (plan : List PlanLine) (size : Size) (t : TurnState) (g : Option Refusal) →
@@ -44,15 +44,15 @@ still_given_up e told out g x out_now g_now f (inl (same, now)) = now ∙ (ap (g
 still_given_up e told out g x out_now g_now f (inr (same, now)) =
     now ∙ ap (λ o. or_first o refusals.NoMemory) (ap (given_up_by told) f ∙ stays_so told x)
 
-pub ruled_behind : (script : Script) (is_open : Bool) (plan : List PlanLine) (size : Size) (t u : TurnState) (e : Event) (seat : ℕ) (done : Option Done)
+pub ruled_behind : (script : Script) (is_open : Bool) (plan : List PlanLine) (size : Size) (t u : TurnState) (e : Event) (seat : ℕ) (handed : Option Done)
     (told : Reply) (taken : ℕ) →
-    Passes is_open t e done taken → IsTrueDone script done → Answers t.run e seat done u.run told → Follows (record t { taken = taken }) e told u →
+    Passes is_open t e handed taken → IsTrueDone script handed → Answers t.run e seat handed u.run told → Follows (record t { taken = taken }) e told u →
     StaysRuled script is_open plan size t t.given_up → StaysRuled script is_open plan size u u.given_up
-ruled_behind script is_open plan size t u e seat done told taken passes is_true answers follows = by_given t.given_up refl
+ruled_behind script is_open plan size t u e seat handed told taken passes is_true answers follows = by_given t.given_up refl
   where
     on : (is_open ≡ false → Ruled script (first_turn plan size) t) → StaysRuled script is_open plan size u u.given_up
     on way = for_any script is_open plan size u u.given_up (λ closed.
-        one_more script (first_turn plan size) t u e seat done told taken (way closed) (closed_ruled is_open t e done taken passes closed) is_true answers follows)
+        one_more script (first_turn plan size) t u e seat handed told taken (way closed) (closed_ruled is_open t e handed taken passes closed) is_true answers follows)
 
     by_given : (g : Option Refusal) → t.given_up ≡ g → StaysRuled script is_open plan size t g → StaysRuled script is_open plan size u u.given_up
     by_given None f way = on way

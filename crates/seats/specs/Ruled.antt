@@ -17,7 +17,7 @@ IsNamed t e taken = ((choice t ≡ Does e) × (taken ≡ t.taken)) ⊎ ((choice 
 -- the event commits a job with what was done on it
 abbrev pub HandsIn : Event → Option Done → Type 0
 HandsIn (Commit j) (Some d) = j ≡ d.job.number
-HandsIn e done = ⊥
+HandsIn e handed = ⊥
 
 -- a turn of a run that goes on names the event, and nothing is handed in; or it hands in what was done on a job; so many of the plan's lines are taken behind it
 abbrev pub IsRuled : TurnState → Event → Option Done → ℕ → Type 0

@@ -31,7 +31,7 @@ claim_is_no_join e i j =
 does_not_plan : (e : Event) → Does (Claim 1) ≡ Plans e → ⊥
 does_not_plan e i = cc
 
-not_first : (n slots : ℕ) (e : Event) (ran : Option Done) (taken : ℕ) → IsRuled (begins n slots) e done taken → e ≡ Join → ⊥
+not_first : (n slots : ℕ) (e : Event) (ran : Option Done) (taken : ℕ) → IsRuled (begins n slots) e ran taken → e ≡ Join → ⊥
 not_first n slots e ran taken (inl (inl (chosen, same), bare, free)) j = claim_is_no_join e (sym (first_claims n slots) ∙ chosen) j
 not_first n slots e ran taken (inl (inr (chosen, same), bare, free)) j = absurd (does_not_plan e (sym (first_claims n slots) ∙ chosen))
 not_first n slots (Commit i) ran taken (inr (hands, same)) j = cc

@@ -2,7 +2,7 @@
 """Lists the definitions that public contracts reach, and writes docs/trusted.md.
 
     tools/trusted.py            writes docs/trusted.md
-    tools/trusted.py --check    fails where docs/trusted.md is not what it would write
+    tools/trusted.py --check    fails where docs/trusted.md is not what it would write, or README.md names other crates of the kit than crates.txt
 
 A contract names definitions of specs/, and those name others; what only proofs use isn't reached. Names are read where they stand: one
 that is bound there (an argument, a pattern's variable, a field of the record) is no definition's, nor is a field behind a dot, whose
@@ -536,6 +536,18 @@ def try_sample():
     assert clauses(CODE, lambda name: name == "shown") == [" IsFile result told.now "]
 
 
+def libraries(text):
+    """By crates.txt: of each crate the libraries that it stands on."""
+    lines = (line.partition("#")[0].partition(":") for line in text.splitlines())
+    return {name.split()[0]: below.split() for name, _, below in lines if name.strip()}
+
+
+def trusted_crates(text):
+    """The crates of the kit that README.md says are trusted."""
+    found = re.search(r"the crates of the kit that the\s+program stands on:(.*?), with those", text, flags=re.S)
+    return set(re.findall(r"`(\w+)`", found[1])) if found else set()
+
+
 def main():
     try_sample()
     crates = re.findall(r"^([a-z_0-9]+)[^:\n]*:", read(os.path.join(TOP, "crates.txt")), flags=re.M)
@@ -544,6 +556,11 @@ def main():
     if "--check" in sys.argv:
         if not os.path.exists(PAGE) or read(PAGE) != text:
             sys.exit("docs/trusted.md is not what tools/trusted.py would write")
+        below = libraries(read(os.path.join(TOP, "crates.txt")))
+        kit = {it for libraries_below in below.values() for it in libraries_below} - set(below)
+        told = trusted_crates(read(os.path.join(TOP, "README.md")))
+        if kit != told:
+            sys.exit(f"README.md names other crates of the kit than crates.txt: {' '.join(sorted(kit ^ told))}")
         return
     with open(PAGE, "w", encoding="utf-8") as file:
         file.write(text)

@@ -65,7 +65,8 @@ pub fn legal_in_larger_networks()
     ensures { LegalInLargerNetworks }
 {}
 
-/// An event shows no cause for which it is refused exactly where it may be accepted; a commit also needs its entries.
+/// Where an event may be accepted, it shows no cause for which it is refused; where it shows none, any but a commit may be accepted, which also needs its
+/// entries.
 pub fn law_of_causes()
     ensures { LawOfCauses }
 {}

@@ -54,7 +54,8 @@ fn read_inputs<R: Source, E: Source>(
     ensures lines { IfOk result (λ inputs. IfSome (E.left events.old) (λ bytes. IsFile IsLine line_text bytes inputs.lines)) }
     ensures refused { (size : Size) (writes : Counts) → IfErr result (λ refusal. ExplainsMigration size (R.left reader.old) (E.left events.old)
         (R.failures reader.old, R.failures reader.new) (E.failures events.old, E.failures events.new) writes refusal) }
-    ensures memory { IsErrOf result CommandRefusal.NoMemory → (R.failures reader.new ≡ R.failures reader.old) × (E.failures events.new ≡ E.failures events.old) }
+    ensures memory { IsErrOf result CommandRefusal.NoMemory →
+        (R.failures reader.new ≡ R.failures reader.old) × (E.failures events.new ≡ E.failures events.old) }
     ensures unfailed { OnOk result ((R.failures reader.new ≡ R.failures reader.old) × (E.failures events.new ≡ E.failures events.old)) }
 {
     one_bad_line();

@@ -35,7 +35,8 @@ pub fn read_replay_inputs<R: Source, E: Source>(
     ensures events { IfOk result (λ inputs. IfSome (E.left events.old) (λ bytes. AreEvents bytes inputs.events.says inputs.events.numbers)) }
     ensures refused { (size : Size) (writes : Counts) → IfErr result (λ refusal. ExplainsSim size (R.left reader.old) (E.left events.old)
         (R.failures reader.old, R.failures reader.new) (E.failures events.old, E.failures events.new) writes refusal) }
-    ensures memory { IsErrOf result CommandRefusal.NoMemory → (R.failures reader.new ≡ R.failures reader.old) × (E.failures events.new ≡ E.failures events.old) }
+    ensures memory { IsErrOf result CommandRefusal.NoMemory →
+        (R.failures reader.new ≡ R.failures reader.old) × (E.failures events.new ≡ E.failures events.old) }
     ensures unfailed { OnOk result ((R.failures reader.new ≡ R.failures reader.old) × (E.failures events.new ≡ E.failures events.old)) }
 {
     let text = match read_script(alloc, reader) {

@@ -19,7 +19,8 @@ abbrev pub HandsIn : Event → Option Done → Type 0
 HandsIn (Commit j) (Some d) = j ≡ d.job.number
 HandsIn e handed = ⊥
 
--- a turn of a run that goes on names the event, and nothing is handed in; or it hands in what was done on a job; so many of the plan's lines are taken behind it
+-- a turn of a run that goes on names the event, and nothing is handed in; or it hands in what was done on a job; behind it so many of the plan's lines
+-- are taken
 abbrev pub IsRuled : TurnState → Event → Option Done → ℕ → Type 0
 IsRuled t e done taken = (IsNamed t e taken × (done ≡ None) × (t.given_up ≡ None)) ⊎ (HandsIn e done × (taken ≡ t.taken))
 

@@ -1,6 +1,6 @@
 -- What a run on the core is, passed on to the crates above, which name no core.
 pub use Rattle.protocol_core.specs.Clusters.{IsCluster, Size}
-pub use Rattle.protocol_core.specs.States.{IsLegalRun, IsReached, IsReachedRun, RunState, beside, first_state}
+pub use Rattle.protocol_core.specs.States.{IsLegalRun, IsReached, IsReachedRun, IsSoundRun, RunState, beside, first_state}
 pub use Rattle.protocol_core.specs.Limits.{Limits}
 pub use Rattle.protocol_core.specs.Meant.{IsSoundLog}
 pub use Rattle.protocol_core.specs.Owed.{Pays}

@@ -5,6 +5,7 @@ ghost use Rattle.protocol.specs.Settling.{next};
 ghost use Rattle.protocol_core.specs.Own.{GivesOwn, IsOwn};
 ghost use Rattle.protocol_core.specs.Limits.{IsWithin, Limits};
 ghost use Rattle.protocol_core.specs.Owed.{Pays};
+ghost use Rattle.protocol_core.specs.States.{IsSoundRun};
 ghost use Rattle.protocol_core.specs.Steps.{Answers, AnswersAsShown, reply_of};
 ghost use Rattle.report_text.specs.of_report_lines.Main.{status_of};
 ghost use Rattle.report_text.specs.Report.{report_text};
@@ -98,11 +99,12 @@ impl<S: ScriptName> Board<S> {
         self.core.next(but)
     }
 
-    /// The entries so far, oldest first.
+    /// The entries so far, oldest first. For whoever goes on by laws of single steps, the run is as it is between two events (`sound`).
     pub fn log(&self) -> &[Entry]
         ensures log { result.now ≡ self.now.log }
         ensures meant { IsSoundLog S.script self.now }
         ensures within { IsWithin S.script self.now }
+        ensures sound { IsSoundRun S.script self.now }
     {
         self.core.log()
     }

@@ -7,7 +7,7 @@ ghost use Rattle.protocol_core.specs.Own.{GivesOwn, IsOwn};
 ghost use Rattle.protocol_core.specs.Limits.{IsWithin, Limits};
 ghost use Rattle.protocol_core.specs.Meant.{IsSoundLog};
 ghost use Rattle.protocol_core.specs.Owed.{Pays};
-ghost use Rattle.protocol_core.specs.States.{first_state};
+ghost use Rattle.protocol_core.specs.States.{IsSoundRun, first_state};
 ghost use Rattle.protocol_core.specs.Steps.{Answers, AnswersAsShown, reply_of};
 
 use crate::cluster::Cluster;
@@ -74,11 +74,12 @@ impl<S: ScriptName> Core<S> {
         })
     }
 
-    /// The entries so far, oldest first.
+    /// The entries so far, oldest first. For whoever goes on by laws of single steps, the run is as it is between two events (`sound`).
     pub fn log(&self) -> &[Entry]
         ensures log { result.now ≡ self.now.log }
         ensures meant { IsSoundLog S.script self.now }
         ensures within { IsWithin S.script self.now }
+        ensures sound { IsSoundRun S.script self.now }
     {
         legal_logs_read_as_serial();
         main_begins_the_serial_run();

@@ -9,6 +9,7 @@ use Rattle.replay_laws.specs.Replaying.{CameSo, IsFirst, RunsReplay, RunsReplayT
 use Rattle.replay_laws.specs.of_seats.Ends.{IsAtLimit, IsEnd, IsOver}
 use Rattle.replay_laws.specs.of_seats.declared.end.Ended.{Ended}
 use Rattle.replay_laws.specs.of_seats.declared.end.Ended.TheVariants as ends
+use Rattle.replay_laws.specs.of_seats.Held.{AreOutside}
 use Rattle.replay_laws.specs.of_seats.Seated.{AreFrom}
 use Rattle.run_commands.specs.declared.form.Form.{Form}
 use Rattle.run_commands.specs.SimReports.{first_play}
@@ -16,26 +17,26 @@ use Rattle.raysim_commands.specs.ThreadReports.{AreOutputs, IsRunOn, MayBeReplay
 use Rattle.raysim_commands.proofs.Seated.{few_seats}
 
 replays_so : RunsReplay → RunsReplayToThemselves → (script : Script) → IsWellTyped script → (plan : List PlanLine) (size : Size) → 1 ≤ size.nodes → (run : RunState) →
-    IsOver script plan size run → MayBeReplayed run.log (recorded_in run.log) → ReplaysTo script size run
-replays_so replays same script typed plan size some run over may =
-    let so : CameSo script size.nodes size.slots run = record { some = some; comes = over.came; once = may.once } in
+    AreOutside plan → IsOver script plan size run → MayBeReplayed (recorded_in run.log) → ReplaysTo script size run
+replays_so replays same script typed plan size some run outside over few =
+    let so : CameSo script size.nodes size.slots run = record { some = some; comes = over.came; once = over.once refl outside } in
     let begins : IsFirst size.nodes size.slots (first_play size) = record { run = refl; jobs = refl; applied = refl } in
-    let k = replays script typed.main_apart size.nodes size.slots run so over.goes_on run.log refl may.few (first_play size) begins in
+    let k = replays script typed.main_apart size.nodes size.slots run so over.goes_on run.log refl few (first_play size) begins in
     record {
       again = k.0;
       replays = k.1;
-      same = λ other p. same script typed.main_apart size.nodes size.slots run so over.goes_on run.log refl may.few (first_play size) other begins p;
+      same = λ other p. same script typed.main_apart size.nodes size.slots run so over.goes_on run.log refl few (first_play size) other begins p;
     }
 
 pub run_on_so : RunsReplay → RunsReplayToThemselves → (script checked : Script) → checked ≡ script → IsWellTyped checked → (plan : List PlanLine) (size : Size)
-    (threads : ℕ) (form : Form) (run : RunState) (report history : List ℕ) (status : ℕ) → 1 ≤ size.nodes → threads ≤ 8 → IsOver script plan size run →
-    AreFrom threads run.log → AreOutputs script run form report history status → IsRunOn script plan size threads form report history status
-run_on_so replays same script checked own typed plan size threads form run report history status some few over seated outputs = record {
+    (threads : ℕ) (form : Form) (run : RunState) (report history : List ℕ) (status : ℕ) → 1 ≤ size.nodes → threads ≤ 8 → AreOutside plan →
+    IsOver script plan size run → AreFrom threads run.log → AreOutputs script run form report history status → IsRunOn script plan size threads form report history status
+run_on_so replays same script checked own typed plan size threads form run report history status some few outside over seated outputs = record {
   run = run;
   over = over;
   seated = seated;
   is_file = outputs.reads (few_seats threads run.log few seated);
-  replays = replays_so replays same script (subst IsWellTyped own typed) plan size some run over;
+  replays = replays_so replays same script (subst IsWellTyped own typed) plan size some run outside over;
   outputs = outputs;
 }
 

@@ -13,7 +13,6 @@ use Rattle.report_text.specs.of_report_lines.Main.{status_of}
 use Rattle.run_commands.specs.of_protocol_board.Cores.{RunState, Size}
 use Rattle.run_commands.specs.of_protocol_board.Cores.{IsSoundLog}
 use Rattle.run_commands.specs.of_protocol_board.Replays.{Play, PlaysFile}
-use Rattle.replay_laws.specs.of_run_paths.Handing.{HandsInOnce}
 use Rattle.replay_laws.specs.of_seats.Ends.{IsAtLimit, IsOver}
 use Rattle.replay_laws.specs.of_seats.Seated.{AreFrom}
 use Rattle.raysim_streams.specs.declared.Failure.TheVariants.{Read, Write, Closed}
@@ -38,10 +37,9 @@ pub record AreOutputs (script : Script) (run : RunState) (form : Form) (report h
   pub reads : AreSeated run.log → IsEventFile history (files.Recorded (recorded_in run.log))
   pub ends : status ≡ status_of run.log
 
--- by the log alone: what was handed in was of the job that it was handed in for, and once; and a replay may apply so many events
-pub record MayBeReplayed (log : List Entry) (events : List RecordedEvent) : Type 0 where
-  pub once : HandsInOnce log
-  pub few : length events ≤ 100000
+-- a replay may apply so many events
+abbrev pub MayBeReplayed : List RecordedEvent → Type 0
+MayBeReplayed events = length events ≤ 100000
 
 -- `sim` of the history may replay it, on that cluster; and whatever comes of a replay is this run, with this log
 pub record ReplaysTo (script : Script) (size : Size) (run : RunState) : Type 0 where
@@ -57,7 +55,7 @@ pub record IsRunOn (script : Script) (plan : List PlanLine) (size : Size) (threa
   pub seated : AreFrom threads run.log
   -- the history is an event file, which says the events of the log
   pub is_file : IsEventFile history (files.Recorded (recorded_in run.log))
-  pub replays : MayBeReplayed run.log (recorded_in run.log) → ReplaysTo script size run
+  pub replays : MayBeReplayed (recorded_in run.log) → ReplaysTo script size run
   pub outputs : AreOutputs script run form report history status
 
 -- a run of the script beside the plan on such a cluster, each event of which came from one of so many threads, is at a limit; and what its log means

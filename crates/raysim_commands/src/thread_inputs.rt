@@ -3,6 +3,7 @@
 ghost use Rattle.std.specs.Prelude.{◌≡◌, IfOk, IfErr, IfSome, IsErrOf, OnOk};
 ghost use Rattle.script_check.specs.Trees.{script_of};
 ghost use Rattle.script_commands.specs.Scripts.{IsScript, IsUnwritten};
+ghost use Rattle.replay_laws.specs.of_seats.Held.{AreOutside};
 ghost use Rattle.raysim_commands.specs.ThreadReports.{ExplainsInputs, ExplainsPlan, IsPlan};
 
 use event_files::{EventError, RunPlan, parse_plan};
@@ -22,6 +23,7 @@ pub struct Inputs {
 /// The lines of a plan.
 fn read_plan<P: Source>(alloc: Global, reader: &mut P) -> Result<RunPlan, CommandRefusal>
     ensures read { IfOk result (λ plan. IfSome (P.left reader.old) (λ bytes. IsPlan bytes plan.lines)) }
+    ensures outside { IfOk result (λ plan. AreOutside plan.lines) }
     ensures refused { IfErr result (λ refusal. ExplainsPlan (P.left reader.old) (P.failures reader.old, P.failures reader.new) refusal) }
     ensures memory { IsErrOf result CommandRefusal.NoMemory → P.failures reader.new ≡ P.failures reader.old }
     ensures unfailed { OnOk result (P.failures reader.new ≡ P.failures reader.old) }
@@ -45,6 +47,7 @@ pub fn read_inputs<A: Source, P: Source>(
 ) -> Result<Inputs, CommandRefusal>
     ensures script { IfOk result (λ inputs. IfSome (A.left reader.old) (λ text. IsScript text (script_of inputs.script))) }
     ensures plan { IfOk result (λ inputs. IfSome (P.left plan.old) (λ bytes. IsPlan bytes inputs.plan.lines)) }
+    ensures outside { IfOk result (λ inputs. AreOutside inputs.plan.lines) }
     ensures refused { IfErr result (λ refusal. ExplainsInputs (A.left reader.old) (P.left plan.old)
         (A.failures reader.old, A.failures reader.new) (P.failures plan.old, P.failures plan.new) refusal) }
     ensures memory { IsErrOf result CommandRefusal.NoMemory → (A.failures reader.new ≡ A.failures reader.old) × (P.failures plan.new ≡ P.failures plan.old) }

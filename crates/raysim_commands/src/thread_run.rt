@@ -5,6 +5,7 @@ ghost use Rattle.script_check.specs.Trees.{script_of};
 ghost use Rattle.event_files.specs.declared.plan.PlanLine.{PlanLine};
 ghost use Rattle.run_commands.specs.of_protocol_board.Cores.{Size};
 ghost use Rattle.replay_laws.specs.of_seats.Ends.{IsAtLimit};
+ghost use Rattle.replay_laws.specs.of_seats.Held.{AreOutside};
 ghost use Rattle.replay_laws.specs.of_seats.Seated.{AreFrom};
 ghost use Rattle.raysim_commands.specs.ThreadReports.{AreOutputs, IsRunOn, IsStop};
 
@@ -88,6 +89,7 @@ pub fn run_script<S: ScriptName + Send + Sync, K: Gate + Sync, R: Threads + Wait
 ) -> Result<Outputs, CommandRefusal>
     requires some { (1 ≤ threads) × (threads ≤ 8) }
     requires script { script_of script.now ≡ S.script }
+    requires outside { AreOutside plan.lines }
     ensures run { IfOk result (λ out.
         IsRunOn S.script plan.lines cluster threads form (string_bytes out.report) (string_bytes out.history) out.status) }
     ensures stopped { IfErr result (IsStop S.script plan.lines cluster threads) }

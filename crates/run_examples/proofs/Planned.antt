@@ -34,8 +34,8 @@ does_not_plan e i = cc
 not_first : (n slots : ℕ) (e : Event) (ran : Option Done) (taken : ℕ) → IsRuled (begins n slots) e ran taken → e ≡ Join → ⊥
 not_first n slots e ran taken (inl (inl (chosen, same), bare, free)) j = claim_is_no_join e (sym (first_claims n slots) ∙ chosen) j
 not_first n slots e ran taken (inl (inr (chosen, same), bare, free)) j = absurd (does_not_plan e (sym (first_claims n slots) ∙ chosen))
-not_first n slots (Commit i) ran taken (inr (hands, same)) j = cc
-not_first n slots e ran taken (inr (hands, same)) j = absurd hands
+not_first n slots (Commit i) ran taken (inr (hands, out, same)) j = cc
+not_first n slots e ran taken (inr (hands, out, same)) j = absurd hands
 
 -- another event than the join is the first of the log
 abbrev BeginsElse : List Entry → Type 0

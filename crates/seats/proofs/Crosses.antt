@@ -50,6 +50,8 @@ use Rattle.seat_books.proofs.ledgers.Ledgers.TheSendSync as ledgers
 use Rattle.seat_books.specs.contracts.ledgers.Ledgers as Ledgers
 use Rattle.seat_books.specs.declared.watching.Watching as watching
 use Rattle.seats.specs.contracts.outs.JobOut as JobOut
+use Rattle.job_tickets.specs.declared.name.TicketName as ticket_name
+use Rattle.job_tickets.proofs.tickets.Tickets.TheSendSync as tickets
 use Rattle.shared_log.specs.declared.name.LogName as log_name
 use Rattle.seats.specs.declared.run_name.RunName as run_name
 use Rattle.seats.specs.contracts.seen_turning.SeenTurning as SeenTurning
@@ -179,23 +181,24 @@ module _ (S : RattleType) (n : script_name.Ghosts S.Denot) (s : IsSend S) where
   board_send : IsSend (Board.the_row S n)
   board_send = search (core_send, crosses, sendable) depth 60 fits 20000
 
-  module _ (P : RattleType) (m : run_name.Ghosts P.Denot) (w : watching.Ghosts P.Denot) (l : log_name.Ghosts P.Denot) (p : IsSend P) where
-    turning_send : IsSend (Turning.the_row S P n m w l)
+  module _ (P : RattleType) (m : run_name.Ghosts P.Denot) (w : watching.Ghosts P.Denot) (l : log_name.Ghosts P.Denot) (t : ticket_name.Ghosts P.Denot)
+      (p : IsSend P) where
+    turning_send : IsSend (Turning.the_row S P n m w l t)
     turning_send = search (board_send, lines_send, outs_send, phantom.the_field_send, crosses, sendable) depth 60 fits 20000
 
     seen_log_send : IsSend (SeenLog.the_field P l).row
     seen_log_send = seen_log.the_field_send P l
 
-    seen_send : IsSend (SeenTurning.the_row S P l n m w)
-    seen_send = search (turning_send, seen_log_send, crosses, sendable) depth 60 fits 20000
+    seen_send : IsSend (SeenTurning.the_row S P l n m w t)
+    seen_send = search (turning_send, seen_log_send, tickets.the_send, crosses, sendable) depth 60 fits 20000
 
     module _ (E G C J V H D M : RattleType) (e : ledger.Ghosts E.Denot) (g : ledger.Ghosts G.Denot) (c : ledger.Ghosts C.Denot) (j : ledger.Ghosts J.Denot)
         (v : ledger.Ghosts V.Denot) (h : ledger.Ghosts H.Denot) (d : ledger.Ghosts D.Denot) (k : ledger.Ghosts M.Denot) where
-      locked_send : IsSend (Locked.the_row S P E G C J V H D M n m w l e g c j v h d k)
-      locked_send = declared_send (Locked.the_type S P E G C J V H D M n m w l e g c j v h d k) (
-        as_row_send (SeenTurning.the_field S P l n m w) seen_send,
+      locked_send : IsSend (Locked.the_row S P E G C J V H D M n m w l t e g c j v h d k)
+      locked_send = declared_send (Locked.the_type S P E G C J V H D M n m w l t e g c j v h d k) (
+        as_row_send (SeenTurning.the_field S P l n m w t) seen_send,
         (as_row_send (Ledgers.the_field P E G C J V H D M w e g c j v h d k) (ledgers.the_send P E G C J V H D M w e g c j v h d k), tt),
       )
 
-      pub shared_sync : IsSync (Shared.the_row S P E G C J V H D M n m w l e g c j v h d k)
+      pub shared_sync : IsSync (Shared.the_row S P E G C J V H D M n m w l t e g c j v h d k)
       shared_sync = search (locked_send, crosses, sendable) depth 60 fits 20000

@@ -4,6 +4,8 @@ mod Books
 mod Came
 mod Crosses
 pub mod Few
+mod Given
+mod Held
 pub mod Jobs
 mod Limited
 mod Outside

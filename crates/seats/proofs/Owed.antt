@@ -33,16 +33,16 @@ use Rattle.seats.proofs.Outside.{stays_so}
 
 -- ---- jobs that are out
 
-or_right : (a b : Bool) → b ≡ true → (a || b) ≡ true
+pub or_right : (a b : Bool) → b ≡ true → (a || b) ≡ true
 or_right true b h = refl
 or_right false b h = h
 
-has_more : (j : ℕ) (out more : List JobOut) → has_job j out ≡ true → has_job j (out ++ more) ≡ true
+pub has_more : (j : ℕ) (out more : List JobOut) → has_job j out ≡ true → has_job j (out ++ more) ≡ true
 has_more j [] more h = absurd (true≢false (sym h))
 has_more j (x ∷ out) more h = at_test (λ b. (b || has_job j out) ≡ true → (b || has_job j (out ++ more)) ≡ true) (x.job == j)
     (λ _ k. refl) (λ _ k. has_more j out more k) h
 
-has_last : (j w : ℕ) (out : List JobOut) → has_job j (out ++ record { job = j; worker = w } ∷ []) ≡ true
+pub has_last : (j w : ℕ) (out : List JobOut) → has_job j (out ++ record { job = j; worker = w } ∷ []) ≡ true
 has_last j w [] = ap (λ b. b || false) (eq-eqb j j refl)
 has_last j w (x ∷ out) = or_right (x.job == j) (has_job j (out ++ record { job = j; worker = w } ∷ [])) (has_last j w out)
 
@@ -50,7 +50,7 @@ other_job : (i j k : ℕ) → (i == j) ≡ false → (k == i) ≡ true → (k ==
 other_job i j k apart same = ap (λ n. n == j) (eqb-true k i same) ∙ apart
 
 -- another job stays
-has_others : (i j : ℕ) (out : List JobOut) → (i == j) ≡ false → has_job j out ≡ true → has_job j (without i out) ≡ true
+pub has_others : (i j : ℕ) (out : List JobOut) → (i == j) ≡ false → has_job j out ≡ true → has_job j (without i out) ≡ true
 has_others i j [] apart h = h
 has_others i j (x ∷ out) apart h = at_test (λ b. (x.job == i) ≡ b → has_job j (if not b then x ∷ without i out else without i out) ≡ true) (x.job == i)
     (λ _ same. has_others i j out apart (ap (λ b. b || has_job j out) (sym (other_job i j x.job apart same)) ∙ h))
@@ -96,7 +96,7 @@ handed_now j [] seat more takes_it =
     ap (λ b. (b && takes_done more) || is_handed_in j more) (eq-eqb j j refl) ∙ ap (λ b. b || is_handed_in j more) takes_it
 handed_now j (x ∷ log) seat more takes_it = handed_later j x (log ++ In (Commit j) seat ∷ more) (handed_now j log seat more takes_it)
 
-unrefused_takes : (es : List Entry) → refused_next es ≡ false → takes_done es ≡ true
+pub unrefused_takes : (es : List Entry) → refused_next es ≡ false → takes_done es ≡ true
 unrefused_takes [] h = refl
 unrefused_takes (Refused code ∷ es) h = absurd (true≢false h)
 unrefused_takes (x ∷ es) h = refl
@@ -137,7 +137,7 @@ one_in out log i seat more takes_it same h j some few = by_test (i == j) refl
 
 -- ---- by what is answered
 
-no_claim : (log : List Entry) (e : Event) (seat : ℕ) (es : List Entry) → are_parts es ≡ true → claim_in e ≡ [] → claims (log ++ In e seat ∷ es) ≡ claims log
+pub no_claim : (log : List Entry) (e : Event) (seat : ℕ) (es : List Entry) → are_parts es ≡ true → claim_in e ≡ [] → claims (log ++ In e seat ∷ es) ≡ claims log
 no_claim log e seat es quiet none =
     claims-event log e seat es (no_event es quiet) (not_refused es quiet) ∙ ap (λ ws. claims log ++ ws) none ∙ append-nil (claims log)
 
@@ -178,7 +178,7 @@ taken_out out log c (Kill w) seat handed told es quiet same r tells h = other_ou
 taken_out out log c (KillNode m) seat handed told es quiet same r tells h = other_out out log (KillNode m) seat told es quiet tells refl refl h
 taken_out out log c Join seat handed told es quiet same r tells h = other_out out log Join seat told es quiet tells refl refl h
 
-refused_claims : (log : List Entry) (e : Event) (seat : ℕ) (code : Refusal) → claims (log ++ In e seat ∷ Refused code ∷ []) ≡ claims log
+pub refused_claims : (log : List Entry) (e : Event) (seat : ℕ) (code : Refusal) → claims (log ++ In e seat ∷ Refused code ∷ []) ≡ claims log
 refused_claims log e seat code = ap (λ es. flat_map claim_in es) (accepted-refused log e seat code)
 
 -- what is refused leaves the jobs that are out as they are, but where its worker is dead
@@ -215,7 +215,7 @@ refused_out out log e seat Stale h = stale_out out log e seat h
 refused_out out log e seat code h = refused_still out log e seat code (others_same out e code refl) h
 
 -- what is told of an event that is taken gives nothing up
-taken_goes_on : (given : Option Job) (told : Reply) → GivesThat given told → given_up_by told None ≡ None
+pub taken_goes_on : (given : Option Job) (told : Reply) → GivesThat given told → given_up_by told None ≡ None
 taken_goes_on None told tells = ap (λ t. given_up_by t None) tells
 taken_goes_on (Some job) told tells = ap (λ t. given_up_by t None) tells
 

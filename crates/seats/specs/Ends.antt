@@ -10,10 +10,11 @@ use Rattle.log_entries.specs.declared.refusal.Refusal.TheVariants as refusals
 use Rattle.protocol.specs.Settling.{next}
 use Rattle.meaning.specs.Syntax.{Script}
 use Rattle.run_paths.specs.of_protocol_board.Cores.{RunState, Size, first_state}
-use Rattle.run_paths.specs.Handing.{AllHandedIn}
+use Rattle.run_paths.specs.Handing.{AllHandedIn, HandsInOnce}
 use Rattle.run_paths.specs.Paths.{Comes}
 use Rattle.books.specs.SeatTotals.{seat_totals}
 use Rattle.seat_books.specs.Seats.{SeatOf, book_of, sums}
+use Rattle.seats.specs.Held.{AreOutside}
 use Rattle.seats.specs.Outside.{HasNoOther}
 use Rattle.seats.specs.Ruled.{IsRuledRun}
 use Rattle.seats.specs.Seated.{AreFrom}
@@ -54,6 +55,8 @@ ArePlanned is_open es log = AreIn es log × HasNoOther is_open es log
 pub record IsOverBeside (script : Script) (is_open : Bool) (plan : List PlanLine) (size : Size) (r : RunState) : Type 0 where
   pub settled : next r.whole [] ≡ None
   pub handed_in : AllHandedIn r.log
+  -- and, unless the run is open or the plan has events of the run's own, once
+  pub once : is_open ≡ false → AreOutside plan → HandsInOnce r.log
   pub planned : ArePlanned is_open (events_of plan) r.log
   pub on_cluster : size_of r ≡ size
   -- each event found memory, so that these are the workers, nodes and messages to which the log led

@@ -1,5 +1,6 @@
 pub mod Counted
 pub mod Ends
+pub mod Held
 pub mod Outside
 pub mod Owed
 pub mod Ruled

@@ -1,20 +1,15 @@
 -- Events from outside: those that a plan may have.
 use Rattle.std.specs.Prelude.{◌≡◌, ◌⊎◌, ℕ, Bool, true, false, List, Option, Some, None}
 use Rattle.std.specs.List.{filter}
-use Rattle.event_log.specs.Entries.{Entry, Event, Claim, Commit, Deliver}
+use Rattle.event_log.specs.Entries.{Entry, Event}
 use Rattle.event_log.specs.Words.{events}
 use Rattle.log_entries.specs.declared.refusal.Refusal.{Refusal}
 use Rattle.log_entries.specs.declared.refusal.Refusal.TheVariants as refusals
 use Rattle.segment.specs.Jobs.{Done}
+use Rattle.seats.specs.Held.{IsStillOut}
+pub use Rattle.seats.specs.Held.{is_outside}
 use Rattle.seats.specs.Ruled.{HandsIn, IsRuled}
 use Rattle.seats.specs.Turns.{TurnState}
-
--- claims, commits and deliveries are the run's own
-abbrev pub is_outside : Event → Bool
-is_outside (Claim w) = false
-is_outside (Commit j) = false
-is_outside (Deliver m) = false
-is_outside _ = true
 
 -- those of the events that come from outside
 abbrev pub outside : List Event → List Event
@@ -30,9 +25,9 @@ KeepsToThem is_open es log None = HasNoOther is_open es log
 KeepsToThem is_open es log (Some refusals.Limit) = HasNoOther is_open es log
 KeepsToThem is_open es log (Some refusal) = Unit {0}
 
--- a call may apply the event with what is handed in, if anything is: it commits what was done on a job, or the run is open
-abbrev pub MayApply : Bool → Event → Option Done → Type 0
-MayApply is_open e done = HandsIn e done ⊎ (is_open ≡ true)
+-- a call may apply the event with what is handed in, if anything is: it commits what was done on a job that is still out, or the run is open
+abbrev pub MayApply : Bool → TurnState → Event → Option Done → Type 0
+MayApply is_open t e done = (HandsIn e done × IsStillOut t done) ⊎ (is_open ≡ true)
 
 -- behind the event so many of the plan's lines are taken: as a turn or a job that is handed in has it, or the run is open and a call applies it
 abbrev pub Passes : Bool → TurnState → Event → Option Done → ℕ → Type 0

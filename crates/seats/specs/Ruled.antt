@@ -8,6 +8,7 @@ use Rattle.log_entries.specs.declared.refusal.Refusal.TheVariants as refusals
 use Rattle.segment.specs.Jobs.{Done}
 use Rattle.run_paths.specs.of_protocol_board.Cores.{Answers, Reply, RunState, Size, first_state}
 use Rattle.run_paths.specs.Paths.{IsTrueDone}
+use Rattle.seats.specs.Held.{IsStillOut}
 use Rattle.seats.specs.Turns.{Does, Follows, Plans, TurnState, choice, past_line}
 
 -- a turn at that state names the event: one of the run's own, or that of the plan's next line, which is then taken
@@ -19,10 +20,11 @@ abbrev pub HandsIn : Event → Option Done → Type 0
 HandsIn (Commit j) (Some d) = j ≡ d.job.number
 HandsIn e handed = ⊥
 
--- a turn of a run that goes on names the event, and nothing is handed in; or it hands in what was done on a job; behind it so many of the plan's lines
--- are taken
+-- a turn of a run that goes on names the event, and nothing is handed in; or it hands in what was done on a job that is still out; behind it so many of the
+-- plan's lines are taken
 abbrev pub IsRuled : TurnState → Event → Option Done → ℕ → Type 0
-IsRuled t e done taken = (IsNamed t e taken × (done ≡ None) × (t.given_up ≡ None)) ⊎ (HandsIn e done × (taken ≡ t.taken))
+IsRuled t e done taken =
+    (IsNamed t e taken × (done ≡ None) × (t.given_up ≡ None)) ⊎ (HandsIn e done × IsStillOut t done × (taken ≡ t.taken))
 
 -- so many such events, one after the other, lead from the one state to the other
 unfoldable pub RuledIn : Script → ℕ → TurnState → TurnState → Type 0

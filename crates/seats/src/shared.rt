@@ -6,12 +6,11 @@ ghost use Rattle.event_log.specs.Books.{totals_of};
 ghost use Rattle.event_log.specs.Entries.{Claim, Commit};
 ghost use Rattle.event_log.specs.Laws.{nothing};
 ghost use Rattle.log_entries.specs.declared.refusal.Refusal.TheVariants.{NoMemory};
-ghost use Rattle.run_paths.specs.of_protocol_board.Cores.{IsOwn, reply_of};
+ghost use Rattle.run_paths.specs.of_protocol_board.Cores.{reply_of};
 ghost use Rattle.seat_books.specs.Holdings.{SameParts};
 ghost use Rattle.seat_books.specs.Seats.{AreParts, book_of, new_seats, sums, with_more};
 ghost use Rattle.seats.specs.Counted.{IsFresh, counted};
 ghost use Rattle.seats.specs.Ends.{IsEndBeside, size_of};
-ghost use Rattle.seats.specs.Outside.{MayApply};
 ghost use Rattle.seats.specs.Seated.{AreFrom};
 ghost use Rattle.seats.specs.Turns.{or_first, turn_counted};
 ghost use Rattle.seats.specs.Views.{told_of};
@@ -26,10 +25,11 @@ use crate::turn::Turn;
 use crate::turning::Turning;
 use event_files::RunPlan;
 use ids::WorkerId;
+use job_tickets::OpenedTickets;
 use log_entries::Event;
 use run_paths::{Board, Reply};
 use seat_books::{Blanks, Ledgers, Seat};
-use segment::{Done, ScriptName};
+use segment::{Done, Job, ScriptName};
 use shared_log::{LogPrefix, OpenedLog};
 use std::alloc::{AllocError, Global};
 use std::marker::Model;
@@ -109,29 +109,28 @@ impl<
     D: Ledger,
     M: Ledger,
 > Locked<S, P, E, G, C, J, V, H, D, M> {
-    /// One event from the seat, counted in its book. With `is_own` what was done is done on a job of this run.
+    /// One event from the seat to an open run, counted in its book.
     fn apply(
         &mut self,
         alloc: Global,
         seat: &mut Seat<P, E, G, C, J, V, H, D, M>,
         event: Event,
         done: Option<Done<S>>,
-        is_own: bool,
     ) -> Reply<S>
-        requires may { MayApply P.is_open event done }
-        requires own { is_own ≡ true → IsOwn self.old.turning.run.log done }
+        requires open { P.is_open ≡ true }
         ensures { seat.new ≡ with_more (counted event (reply_of result)) seat.old }
     {
         let Locked { turning, ledgers } = self;
-        let told = turning.apply(alloc, event, seat.number(), done, is_own);
+        let told = turning.apply(alloc, event, seat.number(), done);
         let more = tally_of(&event, &told);
         ledgers.count(seat, more);
         told
     }
 
     /// Commits what was done on a job that the run gave out, counted in the seat's book.
-    fn commit(
+    fn commit<R: Wait>(
         &mut self,
+        rt: &R,
         alloc: Global,
         seat: &mut Seat<P, E, G, C, J, V, H, D, M>,
         done: SeenDone<S, P>,
@@ -141,22 +140,23 @@ impl<
         let Locked { turning, ledgers } = self;
         let job = done.number();
         let place = seat.number();
-        let told = turning.commit(alloc, place, done);
+        let told = turning.commit(rt, alloc, place, done);
         let more = tally_of(&Event::Commit(job), &told);
         ledgers.count(seat, more);
         told
     }
 
     /// Takes the seat's turn, and counts in its book what came of it.
-    fn turn(
+    fn turn<R: Wait>(
         &mut self,
+        rt: &R,
         alloc: Global,
         seat: &mut Seat<P, E, G, C, J, V, H, D, M>,
     ) -> Turn<SeenJob<S, P>>
         ensures { seat.new ≡ with_more (turn_counted (told_of result)) seat.old }
     {
         let Locked { turning, ledgers } = self;
-        let told = turning.turn(alloc, seat.number());
+        let told = turning.turn(rt, alloc, seat.number());
         let more = turn_tally(&told);
         ledgers.count(seat, more);
         told
@@ -201,17 +201,24 @@ fn begin<
     alloc: Global,
     ledgers: Ledgers<P, E, G, C, J, V, H, D, M>,
     opened: OpenedLog,
+    tickets: OpenedTickets<Job<S>>,
     board: Board<S>,
     plan: RunPlan,
 ) -> Locked<S, P, E, G, C, J, V, H, D, M>
     requires log { opened.seen.book ≡ P.book }
+    requires tickets { tickets.keeper.table_id ≡ P.table }
     requires fresh { IsFresh board }
     requires named { (plan.lines ≡ P.plan) × (size_of board ≡ P.size) }
     requires empty { (ledgers.all ≡ nothing) × (ledgers.watched ≡ nothing) }
 {
     let (log, seen) = opened.named::<P>();
     Locked {
-        turning: SeenTurning::new(Turning::new(alloc, board, plan), log, seen),
+        turning: SeenTurning::new(
+            Turning::new(alloc, board, plan),
+            log,
+            seen,
+            tickets.named::<P>(),
+        ),
         ledgers,
     }
 }
@@ -235,6 +242,7 @@ impl<
         blanks: Blanks,
         further: Blanks,
         opened: OpenedLog,
+        tickets: OpenedTickets<Job<S>>,
         board: Board<S>,
         plan: RunPlan,
         n: u8,
@@ -244,6 +252,7 @@ impl<
         requires seats { n ≡ P.seats }
         requires watched { (watched ≡ P.watched) × (1 ≤ watched) × (watched ≤ n) }
         requires log { opened.seen.book ≡ P.book }
+        requires tickets { tickets.keeper.table_id ≡ P.table }
         requires fresh { IsFresh board }
         requires named { (plan.lines ≡ P.plan) × (size_of board ≡ P.size) }
         requires parts { AreParts n E.parts × SameParts E.parts G.parts C.parts J.parts }
@@ -267,7 +276,9 @@ impl<
                 return Err(error);
             }
         };
-        let locked = begin::<S, P, E, G, C, J, V, H, D, M>(alloc, ledgers, opened, board, plan);
+        let locked = begin::<S, P, E, G, C, J, V, H, D, M>(
+            alloc, ledgers, opened, tickets, board, plan,
+        );
         let shared = Shared {
             locked: Mutex::new(locked),
             seats: usize::from(n),
@@ -331,7 +342,7 @@ impl<
         requires { P.is_open ≡ true }
         ensures { seat.new ≡ with_more (counted event (reply_of result)) seat.old }
     {
-        self.locked.lock(rt).apply(alloc, seat, event, None, false)
+        self.locked.lock(rt).apply(alloc, seat, event, None)
     }
 
     /// One turn of the seat, under the lock: see `Turning::turn`. An event that it applies is counted in the seat's book.
@@ -343,7 +354,7 @@ impl<
     ) -> Turn<SeenJob<S, P>>
         ensures { seat.new ≡ with_more (turn_counted (told_of result)) seat.old }
     {
-        self.locked.lock(rt).turn(alloc, seat)
+        self.locked.lock(rt).turn(rt, alloc, seat)
     }
 
     /// How much of the log all seats may have seen, for the frames that one keeps.
@@ -387,7 +398,7 @@ impl<
     ) -> Reply<S>
         ensures { seat.new ≡ with_more (counted (Commit done.job.number) (reply_of result)) seat.old }
     {
-        self.locked.lock(rt).commit(alloc, seat, done)
+        self.locked.lock(rt).commit(rt, alloc, seat, done)
     }
 
     /// Commits what was done on any job, to an open run, and counts it in the seat's book. The reply is the board's: `Ok`, or why the commit is
@@ -403,8 +414,6 @@ impl<
         ensures { seat.new ≡ with_more (counted (Commit done.job.number) (reply_of result)) seat.old }
     {
         let event = Event::Commit(done.job().number());
-        self.locked
-            .lock(rt)
-            .apply(alloc, seat, event, Some(done), false)
+        self.locked.lock(rt).apply(alloc, seat, event, Some(done))
     }
 }

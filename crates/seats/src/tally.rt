@@ -9,6 +9,7 @@ ghost use Rattle.seats.specs.Views.{told_of};
 
 use crate::seen_job::SeenJob;
 use crate::turn::Turn;
+use job_tickets::TicketName;
 use log_entries::{Event, Refusal};
 use run_paths::Reply;
 use seat_books::Tally;
@@ -74,7 +75,7 @@ pub fn tally_of<S: ScriptName>(event: &Event, told: &Reply<S>) -> Tally
 }
 
 /// What a turn adds to its seat's book: an event that was logged counts one, and a job its number.
-pub fn turn_tally<S: ScriptName, P: LogName>(told: &Turn<SeenJob<S, P>>) -> Tally
+pub fn turn_tally<S: ScriptName, P: LogName + TicketName>(told: &Turn<SeenJob<S, P>>) -> Tally
     ensures { totals_in result ≡ turn_counted (told_of told.now) }
 {
     match told {

@@ -13,9 +13,10 @@ use crate::run_name::RunName;
 use crate::shared::Shared;
 use crate::working::work;
 use event_files::RunPlan;
+use job_tickets::OpenedTickets;
 use run_paths::Board;
 use seat_books::{Blanks, Seat};
-use segment::{Compiled, ScriptName};
+use segment::{Compiled, Job, ScriptName};
 use shared_log::OpenedLog;
 use std::alloc::{AllocError, Global};
 use std::marker::Brand;
@@ -78,6 +79,7 @@ fn run_shared<
     blanks: Blanks,
     further: Blanks,
     opened: OpenedLog,
+    tickets: OpenedTickets<Job<S>>,
     board: Board<S>,
     plan: RunPlan,
     n: u8,
@@ -86,6 +88,7 @@ fn run_shared<
 ) -> Result<Ended<S>, AllocError>
     requires some { (1 ≤ n) × (n ≤ 8) }
     requires log { opened.seen.book ≡ P.book }
+    requires tickets { tickets.keeper.table_id ≡ P.table }
     requires fresh { IsFresh board }
     requires named { (plan.lines ≡ P.plan) × (size_of board ≡ P.size) }
     requires script { script_of script.now ≡ S.script }
@@ -104,7 +107,7 @@ fn run_shared<
     ensures { IfOk result (IsEndAt S.script P.is_open n P.plan P.size) }
 {
     let (mut shared, mut seats) = Shared::<S, P, E, G, C, J, V, H, D, M>::new(
-        alloc, blanks, further, opened, board, plan, n, 1,
+        alloc, blanks, further, opened, tickets, board, plan, n, 1,
     )?;
     for _ in rt.forever() {
         let back = match sit(rt, alloc, &shared, seats, script, gate) {
@@ -146,6 +149,13 @@ pub fn run_on_threads<
     requires script { script_of script.now ≡ S.script }
     ensures { IfOk result (IsEnd S.script n plan.lines (size_of board)) }
 {
+    let tickets = match OpenedTickets::new(alloc) {
+        Ok(tickets) => tickets,
+        Err(error) => {
+            drop(board);
+            return Err(error);
+        }
+    };
     let blanks = Blanks::new(2 * u64::from(n) - 1);
     let further = Blanks::new(1);
     run_shared::<S, Brand, Brand, Brand, Brand, Brand, Brand, Brand, Brand, Brand, K, R>(
@@ -154,6 +164,7 @@ pub fn run_on_threads<
         blanks,
         further,
         OpenedLog::new(),
+        tickets,
         board,
         plan,
         n,

@@ -4,12 +4,13 @@ ghost use Rattle.std.specs.Prelude.{◌≡◌, ◌+◌, ◌≤◌, ℕ, [], None
 ghost use Rattle.event_log.specs.Books.{totals_of};
 ghost use Rattle.event_log.specs.Laws.{nothing, plus};
 ghost use Rattle.log_entries.specs.declared.refusal.Refusal.TheVariants.{NoMemory};
-ghost use Rattle.run_paths.specs.of_protocol_board.Cores.{Answers, GivesOwn, IsOwn, reply_of};
-ghost use Rattle.run_paths.specs.of_protocol_board.Cores.{IsSoundLog};
+ghost use Rattle.run_paths.specs.of_protocol_board.Cores.{Answers, AnswersAsShown, GivesOwn, IsOwn, reply_of};
+ghost use Rattle.run_paths.specs.of_protocol_board.Cores.{IsSoundLog, IsSoundRun};
 ghost use Rattle.books.specs.SeatTotals.{seat_totals};
 ghost use Rattle.run_paths.specs.Paths.{IsTrueDone};
-ghost use Rattle.seats.specs.Counted.{AddsFrom, IsFresh, counted};
+ghost use Rattle.seats.specs.Counted.{AddsFrom, ClaimsGaveJobs, IsFresh, counted};
 ghost use Rattle.seats.specs.Ends.{EndsFor, HasEnded, IsOverBeside, log_at, size_of};
+ghost use Rattle.seats.specs.Held.{StayHeld};
 ghost use Rattle.seats.specs.Outside.{MayApply, Passes};
 ghost use Rattle.seats.specs.Seated.{AreFrom, StaysFrom};
 ghost use Rattle.seats.specs.Turns.{Does, Follows, Plans, Takes, TurnGivesOwn, Turned, choice, due, is_at_end, or_first, past_line, turn_counted};
@@ -57,6 +58,7 @@ impl<S: ScriptName, P: RunName> Model for Turning<S, P> {
     ghost use Rattle.seats.specs.Counted.{ClaimsGaveJobs};
     ghost use Rattle.seats.specs.Ends.{GoesOn, IsWithinLimits, Stands, first_events};
     ghost use Rattle.seats.specs.Outside.{KeepsToThem};
+    ghost use Rattle.seats.specs.Held.{StayHeld};
     ghost use Rattle.seats.specs.Owed.{AreOut};
     ghost use Rattle.seats.specs.Ruled.{StaysRuled};
     ghost use Rattle.seats.specs.Turns.{TurnState};
@@ -74,7 +76,8 @@ impl<S: ScriptName, P: RunName> Model for Turning<S, P> {
         × Comes S.script (first_state P.size.nodes P.size.slots) t.board
         × AreOut t.out t.board.log t.given_up × IsWithinLimits t.board.log t.given_up
         × StaysRuled S.script P.is_open P.plan P.size
-        (record { run = t.board; plan = t.plan; taken = t.taken; out = t.out; given_up = t.given_up }) t.given_up };
+        (record { run = t.board; plan = t.plan; taken = t.taken; out = t.out; given_up = t.given_up }) t.given_up
+        × StayHeld P.is_open P.plan t.out t.board.log t.given_up };
 }
 
 /// How many commits were accepted, behind one event more; no more than the log has entries.
@@ -115,6 +118,7 @@ fn step<S: ScriptName>(
 ) -> Reply<S>
     requires { is_own ≡ true → IsOwn board.old.log done }
     ensures answers { Answers board.old event seat done board.new (reply_of result) }
+    ensures shown { AnswersAsShown S.script board.old event done board.new (reply_of result) }
     ensures own { GivesOwn board.new.log (reply_of result) }
 {
     if is_own {
@@ -185,7 +189,7 @@ impl<S: ScriptName, P: RunName> Turning<S, P> {
         seat: u8,
         done: Option<Done<S>>,
     ) -> Reply<S>
-        requires { MayApply P.is_open event done }
+        requires { MayApply P.is_open self.old event done }
         ensures own { GivesOwn self.new.run.log (reply_of result) }
         ensures answers { Answers self.old.run event seat done self.new.run (reply_of result) }
         ensures counted { totals_of self.new.run.log ≡ plus (totals_of self.old.run.log) (counted event (reply_of result)) }
@@ -205,7 +209,7 @@ impl<S: ScriptName, P: RunName> Turning<S, P> {
         done: Option<Done<S>>,
         is_own: bool,
     ) -> Reply<S>
-        requires may { MayApply P.is_open event done }
+        requires may { MayApply P.is_open self.old event done }
         requires own { is_own ≡ true → IsOwn self.old.run.log done }
         ensures own { GivesOwn self.new.run.log (reply_of result) }
         ensures answers { Answers self.old.run event seat done self.new.run (reply_of result) }
@@ -377,10 +381,15 @@ impl<S: ScriptName, P: RunName> Turning<S, P> {
         }
     }
 
-    /// The entries so far, oldest first.
+    /// The entries so far, oldest first. For whoever goes on by laws of single steps: the plan is the run's (`planned`), the run is as it is between two
+    /// events (`sound`), each accepted claim gave out a job (`given`), and each job was handed in once (`held`).
     pub fn log(&self) -> &[Entry]
         ensures log { result.now ≡ self.now.run.log }
         ensures meant { IsSoundLog S.script self.now.run }
+        ensures planned { self.now.plan ≡ P.plan }
+        ensures sound { IsSoundRun S.script self.now.run }
+        ensures given { ClaimsGaveJobs self.now.run }
+        ensures held { StayHeld P.is_open P.plan self.now.out self.now.run.log self.now.given_up }
     {
         self.board.log()
     }

@@ -10,10 +10,11 @@ use crate::checks::failed::{Checked, Failed, wants};
 use crate::checks::scripts::script;
 use event_files::RunPlan;
 use ids::WorkerId;
+use job_tickets::OpenedTickets;
 use log_entries::Event;
 use raysim_commands::{Board, Cluster, Core, Reply, RunName, Shared};
 use seat_books::{Blanks, Seat};
-use segment::{Compiled, ScriptName};
+use segment::{Compiled, Job, ScriptName};
 use sequence::Seq;
 use shared_log::OpenedLog;
 use std::alloc::Global;
@@ -113,9 +114,11 @@ fn report_of<
     blanks: Blanks,
     further: Blanks,
     opened: OpenedLog,
+    tickets: OpenedTickets<Job<S>>,
 ) -> Result<String, Failed>
     requires script { script_of script.now ≡ S.script }
     requires log { opened.seen.book ≡ P.book }
+    requires tickets { tickets.keeper.table_id ≡ P.table }
     requires named { (P.plan ≡ []) × (P.size ≡ record { nodes = 1; slots = 4 }) × (P.is_open ≡ true) }
     requires seats { P.seats ≡ 2 }
     requires watched { P.watched ≡ 2 }
@@ -138,7 +141,7 @@ fn report_of<
         lines: Seq::new(alloc),
     };
     let (shared, mut seats) = Shared::<S, P, E, G, C, J, V, H, D, M>::new(
-        alloc, blanks, further, opened, board, plan, 2, 2,
+        alloc, blanks, further, opened, tickets, board, plan, 2, 2,
     )?;
     let begun = begin(rt, alloc, script, &shared, &mut seats[0]);
     let went_on = go_on(rt, alloc, &shared, &mut seats[1]);
@@ -177,6 +180,7 @@ pub fn a_run_by_claim_commit_and_step<R: AllocGlobal + Wait>(rt: &R) -> Checked 
         Blanks::new(3),
         Blanks::new(1),
         OpenedLog::new(),
+        OpenedTickets::new(alloc)?,
     )?;
     let wanted =
         "main fault RetriesUsed o1.1\nattempt a1.1#0 w2 open\nresolved o1.1 RetriesUsed o1.1\nreleased o1.1\n";

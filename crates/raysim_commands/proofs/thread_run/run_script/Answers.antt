@@ -15,7 +15,7 @@ returns-in_ok-outputs_behind-in-Over-clause-run g c =
     c.in-Over.is c.in_ok-board.ensures in
     run_on_so c.runs_replay.ensures.again c.runs_replay.ensures.same script (script_of c.args.script.now) c.requires.script
     (subst (λ s. IsWellTyped (script_of s)) c.script.ensures c.functions.ensures.well_typed) c.args.plan.lines c.args.cluster c.args.threads c.args.form
-    c.in-Over.board (string_bytes out.report) (string_bytes out.history) out.status c.nodes.ensures.cluster.a_node c.requires.some.1 over.0 over.1
+    c.in-Over.board (string_bytes out.report) (string_bytes out.history) out.status c.nodes.ensures.cluster.a_node c.requires.some.1 c.requires.outside over.0 over.1
     (search rules)
 
 pub returns-in-AtLimit-clause-stopped : goal.returns-in-AtLimit-clause-stopped

@@ -34,3 +34,6 @@ ghosts-run_shared-M-Ledger g a = record { name = a.further.committed.name; parts
 
 abbrev pub ghosts-run_shared-P-LogName : goal.ghosts-run_shared-P-LogName
 ghosts-run_shared-P-LogName g a = record { book = a.opened.seen.book }
+
+abbrev pub ghosts-run_shared-P-TicketName : goal.ghosts-run_shared-P-TicketName
+ghosts-run_shared-P-TicketName g a = record { table = a.tickets.keeper.table_id }

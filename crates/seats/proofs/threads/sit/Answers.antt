@@ -20,9 +20,9 @@ map_vec-requires-sync-F g c κs within =
     let E = param 2 g.row.E in let G = param 3 g.row.G in let C = param 4 g.row.C in let J = param 5 g.row.J in
     let V = param 6 g.row.V in let H = param 7 g.row.H in let D = param 8 g.row.D in let M = param 9 g.row.M in
     let K = param 10 g.row.K in let R = param 11 g.row.R in
-    let shared = Shared.the_row S P E G C J V H D M g.S.ScriptName g.P.RunName g.P.Watching g.P.LogName
+    let shared = Shared.the_row S P E G C J V H D M g.S.ScriptName g.P.RunName g.P.Watching g.P.LogName g.P.TicketName
     g.E.Ledger g.G.Ledger g.C.Ledger g.J.Ledger g.V.Ledger g.H.Ledger g.D.Ledger g.M.Ledger in
-    let y = shared_sync S g.S.ScriptName b.send-S P g.P.RunName g.P.Watching g.P.LogName b.send-P E G C J V H D M
+    let y = shared_sync S g.S.ScriptName b.send-S P g.P.RunName g.P.Watching g.P.LogName g.P.TicketName b.send-P E G C J V H D M
     g.E.Ledger g.G.Ledger g.C.Ledger g.J.Ledger g.V.Ledger g.H.Ledger g.D.Ledger g.M.Ledger in
     let lent : List RattleType =
     (shr_ref_field (record { mir = named 7; lft = κs.1.1.1.1.1.1.1.0 }) R tt).row

@@ -8,4 +8,4 @@ pub returns-then-goes_on_from-clause-own : goal.returns-then-goes_on_from-clause
 returns-then-goes_on_from-clause-own g c = λ same.
     let log = c.args.log.now.seen in
     subst (λ (d : Done). IsOfLog log d.job) c.self.view_is
-    (job_is_own c.self.inside.seen log c.self.inside.done.job (c.goes_on_from.ensures.goes_on c.if-goes_on_from.true) (c.self.invariant c.if-is_own.true))
+    (job_is_own c.self.inside.seen log c.self.inside.done.job (c.goes_on_from.ensures.goes_on c.if-goes_on_from.true) (c.self.invariant.0 c.if-is_own.true))

@@ -10,6 +10,7 @@ use Rattle.seats.specs.Turns.{TurnState}
 use Rattle.seats.proofs.Counted.{answers_counted}
 use Rattle.seats.proofs.Few.{commits_now, few_behind}
 use Rattle.seats.proofs.Outside.{keeps_kept, keeps_past}
+use Rattle.seats.proofs.Held.{held_behind, passes_fit}
 use Rattle.seats.proofs.Owed.{IsKept, kept_behind}
 use Rattle.seats.proofs.Planned.{stands_past}
 use Rattle.seats.proofs.Ruled.{ruled_behind}
@@ -69,6 +70,9 @@ invariant_of-self g c =
       kept.within,
       ruled_behind g.S.ScriptName.script is_open g.P.RunName.plan g.P.RunName.size t u e c.args.seat c.args.done told c.args.taken passes c.attest.ensures
           c.step-told.ensures.answers (record { plan = refl; taken = refl; kept = c.keep_or_give_up.ensures }) c.self.invariant.10,
+      held_behind g.S.ScriptName.script is_open g.P.RunName.plan c.self.inside.out c.self.inside.given_up before after e c.args.seat c.args.done told out
+          c.keep_or_give_up.new.given_up c.self.invariant.0 c.step-told.ensures.answers c.step-told.ensures.shown
+          (passes_fit is_open g.P.RunName.plan t e c.args.done c.args.taken passes c.self.invariant.2) c.self.invariant.11 c.keep_or_give_up.ensures,
     )
 
 -- the log's totals grow by what the event counts

@@ -3,6 +3,7 @@ use Rattle.event_log.specs.Books.{Totals}
 use Rattle.run_paths.specs.of_protocol_board.Cores.{Size}
 use Rattle.seats.proofs.Came.{fresh_came}
 use Rattle.seats.proofs.Counted.{fresh_claims, fresh_seat_totals, fresh_totals}
+use Rattle.seats.proofs.Held.{none_held_yet}
 use Rattle.seats.proofs.Outside.{none_yet}
 use Rattle.seats.proofs.Owed.{IsKept, none_out_yet}
 use Rattle.seats.proofs.Ruled.{fresh_ruled}
@@ -27,6 +28,7 @@ invariant_of-result g c =
       kept.within,
       fresh_ruled c.none_came.ensures g.S.ScriptName.script g.P.RunName.is_open g.P.RunName.plan c.args.plan.lines g.P.RunName.size r c.new.result
           c.log.ensures.meant.reached c.requires.fresh c.requires.named.1 c.requires.named.0 c.new.ensures,
+      none_held_yet g.P.RunName.is_open g.P.RunName.plan c.new.result r.log c.requires.fresh.0 c.new.ensures,
     )
 
 pub returns-clause-totals : goal.returns-clause-totals

@@ -37,3 +37,6 @@ ghosts-report_of-M-Ledger g a = record { name = a.further.committed.name; parts 
 
 abbrev pub ghosts-report_of-P-LogName : goal.ghosts-report_of-P-LogName
 ghosts-report_of-P-LogName g a = record { book = a.opened.seen.book }
+
+abbrev pub ghosts-report_of-P-TicketName : goal.ghosts-report_of-P-TicketName
+ghosts-report_of-P-TicketName g a = record { table = a.tickets.keeper.table_id }

@@ -1,5 +1,5 @@
 -- A run beside a plan takes its lines when they are due.
-use Rattle.std.proofs.Common.{◌≡◌, ◌⊎◌, ◌≤◌, inl, inr, ℕ, zero, suc, List, [], ◌∷◌, ◌++◌, Option, Some, None, refl, sym, ap, ◌∙◌, subst, arith, append_assoc}
+use Rattle.std.proofs.Common.{◌≡◌, ◌⊎◌, ◌≤◌, inl, inr, ℕ, zero, suc, List, [], ◌∷◌, ◌++◌, Option, refl, sym, ap, ◌∙◌, subst, arith, append_assoc}
 use Rattle.std.specs.Prelude.{Bool, true, false}
 use Rattle.std.proofs.lemmas.List.{append_cancel_left}
 use Rattle.meaning.specs.Syntax.{Script}
@@ -8,10 +8,9 @@ use Rattle.event_log.specs.Entries.{Claim, Commit, Entry, Event, In, Join}
 use Rattle.event_log.specs.Events.{accepted_events}
 use Rattle.event_log.specs.Legal.{opening}
 use Rattle.protocol.specs.Answers.{answer, logged}
-use Rattle.seats.specs.of_protocol_board.Cores.{Answers, Follows, IsCluster, Reply, RunState, Size}
-use Rattle.seats.specs.Ends.{IsOverBeside}
+use Rattle.seats.specs.of_protocol_board.Cores.{Answers, Follows, Reply, RunState}
 use Rattle.seats.specs.Ruled.{IsRuled, IsRuledRun, RuledIn, first_turn}
-use Rattle.seats.specs.Turns.{Choice, Does, Plans, TurnState, choice}
+use Rattle.seats.specs.Turns.{Does, Plans, TurnState, choice}
 use Rattle.run_examples.specs.Examples.{PlansAreTrue, late_join}
 use Rattle.run_examples.proofs.Ruled.{adds_itself}
 

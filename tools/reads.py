@@ -12,7 +12,7 @@ import re
 import sys
 
 TOP = os.path.dirname(os.path.dirname(os.path.abspath(__file__)))
-MOST = 18_200_000
+MOST = 20_900_000
 
 
 def lines():

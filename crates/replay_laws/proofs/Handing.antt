@@ -21,7 +21,7 @@ use Rattle.migration.specs.of_protocol_board.Cores.{IsHanded, IsHandedFor, IsOut
 use Rattle.protocol_laws.specs.Coming.{IsRight}
 use Rattle.migration.specs.of_protocol_board.Replays.{IsDoneOn, job_at, job_for}
 use Rattle.migration.specs.of_run_paths.Paths.{IsTrueDone}
-use Rattle.job_laws.proofs.Standing.{one_is_out}
+use Rattle.migration.proofs.of_seats.of_job_laws.Standing.{one_is_out}
 
 -- ---- it goes on as the attempt's replay does
 

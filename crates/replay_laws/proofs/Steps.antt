@@ -28,8 +28,8 @@ use Rattle.migration.proofs.of_seats.Codes.{is_low, refusal_low}
 use Rattle.migration.proofs.of_seats.Jobs.{claim_gives, happens-jobs}
 use Rattle.migration.specs.of_run_paths.Handing.{has_commit}
 use Rattle.migration.proofs.of_run_paths.Handing.{no_commit}
-use Rattle.job_laws.proofs.Places.{item_before, item_last}
-use Rattle.job_laws.proofs.Standing.{claims_give_jobs_out, jobs_stand}
+use Rattle.migration.proofs.of_seats.of_job_laws.Places.{item_before, item_last}
+use Rattle.migration.proofs.of_seats.of_job_laws.Standing.{claims_give_jobs_out, jobs_stand}
 use Rattle.replay_laws.proofs.Handing.{KeepsJob}
 
 -- ---- refused or taken

@@ -26,8 +26,8 @@ use Rattle.run_paths.specs.Handing.{hands_in_once, has_commit, refused_unknown}
 use Rattle.run_paths.proofs.Handing.{is_tested}
 use Rattle.run_paths.specs.of_protocol_board.Cores.{RunState, GivesJob, GivesThat, Reply, Accepts, Refuses, Tells, Answers, AnswersAsShown, Follows}
 use Rattle.run_paths.specs.of_protocol_board.Cores.{IsHanded, IsOut, beside}
-use Rattle.protocol_core.specs.Steps.{IsShown, refusal_in}
-use Rattle.protocol_laws.specs.Shown.{IsAsShown, IsHidden}
+use Rattle.job_laws.specs.of_protocol_core.Steps.{IsShown, refusal_in}
+use Rattle.job_laws.specs.of_protocol_laws.Shown.{IsAsShown, IsHidden}
 use Rattle.meaning.specs.Syntax.{Script}
 use Rattle.seats.specs.Counted.{ClaimsGaveJobs}
 use Rattle.seats.specs.Held.{AreHeld, AreOutside, IsStillOut, StayHeld, is_outside}

@@ -17,5 +17,6 @@ mod Seen
 pub mod Seated
 mod Sizes
 mod Standing
+pub use Rattle.job_laws.proofs as of_job_laws
 pub use Rattle.run_paths.proofs.of_count_laws as of_count_laws
 pub use Rattle.run_paths.proofs as of_run_paths

@@ -129,7 +129,7 @@ HINTS = {
     "fn main() -> int { return 1 }\n": "a statement ends with ;, the block of an if or a for stands in { }, and an if is no value",
     "fn main() -> int {\n    let x = 3\n    return x;\n}\n": "a statement ends with ;, the block of an if or a for stands in { }, and an if is no value",
     "fn main() -> int { if 1 return 1; return 2; }\n": "a statement ends with ;, the block of an if or a for stands in { }, and an if is no value",
-    "fn main() -> int {\n    let x = 1;\n    if x == 1:\n        return 2;\n    return x;\n}\n": "a block stands in { } and not behind a :, and a variable's type isn't written: let x = 1;",
+    "fn main() -> int {\n    let x = 1;\n    if x == 1:\n        return 2;\n    return x;\n}\n": "a block stands in { } and not behind a :",
     "fn main() -> int { let l = [1]; l.push(3); return 1; }\n": "there are no methods: push(l, 3), len(l), remote f(1), get r",
     "fn main() -> int { let l = &1; return 1; }\n": "there is no &: put 1 makes a reference, of the type ref int, and nothing works on bits",
     "fn main() { return 1; }\n": "a function says of which type its result is: fn f() -> int { }",
@@ -137,7 +137,7 @@ HINTS = {
     "fn main() -> int {\n    let size = 1;\n    print size\n    if 1 { return 2; }\n    return 3;\n}\n":
         "a statement ends with ;, the block of an if or a for stands in { }, and an if is no value",
     "fn main() -> int { if 0 { return 1; } else if 1 { return 2; } return 3; }\n":
-        "there is no else if: else { if a { } }",
+        "there is no else if and no elif: else { if a { } }",
     "fn print(x: int) -> int { return x; }\n": "this is a word of the language, and can't be a name",
     "fn main() -> int { let set = 3; return 1; }\n": "this is a word of the language, and can't be a name",
     "fn main() -> int { let len = 3; return 1; }\n": "this is a word of the language, and can't be a name",
@@ -180,6 +180,27 @@ HINTS = {
     "fn main() -> int { return -9223372036854775808; }\n": "the least number is written -9223372036854775807 - 1",
     "fn main() -> int { remote f(1); return 1; }\n": "a value alone is no statement: let r = remote f(); let x = get r;",
     "fn main() -> int { let l = [1]; push(l, 3); return 1; }\n": "push gives a new list: set l = push(l, 3);",
+    # (comments are passed over)
+    "fn main() -> int {\n    let x = 1;\n    # its square (of the ref:\n    x = x * x;\n    return x;\n}\n":
+        "let x = 2; makes a variable, and set x = 2; gives it another value",
+    "# prints 1 (or 2\nfn main() { return 1; }\n": "a function says of which type its result is: fn f() -> int { }",
+    "fn main() -> int { let x: int = 1; return x; }\n": "a variable's type isn't written: let x = 1;",
+    "fn main() -> int { let a = 1; set (a, b) = f(); return 1; }\n": "set gives one variable a value: let a, b = f(); set x = a; set y = b;",
+    "fn main() -> int { let a = 1; set a, b = f(); return 1; }\n": "set gives one variable a value: let a, b = f(); set x = a; set y = b;",
+    "fn main() -> int { if 0 { return 1; } elif 1 { return 2; } return 3; }\n": "there is no else if and no elif: else { if a { } }",
+    "fn f(a: i64) -> int { return a; }\n": "the types are int, [int] for a list, and ref int for a reference",
+    "fn f() -> [float] { return 1; }\n": "the types are int, [int] for a list, and ref int for a reference",
+    "fn main() -> int { let l = empty str; return 1; }\n": "the types are int, [int] for a list, and ref int for a reference",
+    "fn main() -> int { for i in 1 ..= 5 { print i; } return 1; }\n":
+        "there is no ..=, and a loop leaves out its second bound: for i in 1 .. n + 1 { }",
+    "/* a note */\nfn main() -> int { return 1; }\n": "a comment begins with # and ends with its line, and a quotient is written a / b",
+    "fn main() -> int { let x = 1 /* a note */; return x; }\n":
+        "a comment begins with # and ends with its line, and a quotient is written a / b",
+    "fn main() -> int { return 7 // 2; }\n": "a comment begins with # and ends with its line, and a quotient is written a / b",
+    "fn main() -> int { return get remote(1, 2) f(); }\n":
+        "one number alone stands in the brackets behind remote, how many retries there may be: remote(2) f(1)",
+    "fn main() -> int { return get remote(f, 2); }\n":
+        "one number alone stands in the brackets behind remote, how many retries there may be: remote(2) f(1)",
 }
 
 OPERATORS = "[ * / % + - == != < <="
@@ -255,6 +276,23 @@ SCRIPTS = [
      ["expected: a number is at most 9223372036854775807, and no letter and no _ follows it directly", "found: 9223372036854775808"]),
     (3, "fn main() -> int { remote f(1); return 1; }\n", "remote", 6, ["expected one of: let set if for print return }", "found: remote"]),
     (3, "fn main() -> int { let l = [1]; push(l, 3); return 1; }\n", "push", 4, ["expected one of: let set if for print return }", "found: push"]),
+    (3, "fn main() -> int {\n    let x = 1;\n    # its square (of the ref:\n    x = x * x;\n    return x;\n}\n", "x = x *", 1,
+     ["expected one of: let set if for print return }", "found: x"]),
+    (3, "# prints 1 (or 2\nfn main() { return 1; }\n", "{", 1, ["expected: ->", "found: {"]),
+    (3, "fn main() -> int { let x: int = 1; return x; }\n", ": int =", 1, ["expected one of: = ,", "found: :"]),
+    (3, "fn main() -> int { let a = 1; set (a, b) = f(); return 1; }\n", "(a, b", 1, ["expected: NAME", "found: ("]),
+    (3, "fn main() -> int { let a = 1; set a, b = f(); return 1; }\n", ", b", 1, ["expected: =", "found: ,"]),
+    (3, "fn main() -> int { if 0 { return 1; } elif 1 { return 2; } return 3; }\n", "elif", 4,
+     ["expected one of: else let set if for print return }", "found: elif"]),
+    (3, "fn f(a: i64) -> int { return a; }\n", "i64", 3, ["expected one of: int [ ref", "found: i64"]),
+    (3, "fn f() -> [float] { return 1; }\n", "float", 5, ["expected one of: int [ ref", "found: float"]),
+    (3, "fn main() -> int { let l = empty str; return 1; }\n", "str", 3, ["expected one of: int [ ref", "found: str"]),
+    (3, "fn main() -> int { for i in 1 ..= 5 { print i; } return 1; }\n", "= 5", 1, [f"expected one of: {VALUES}", "found: ="]),
+    (3, "/* a note */\nfn main() -> int { return 1; }\n", "/*", 1, ["expected: fn", "found: /"]),
+    (3, "fn main() -> int { let x = 1 /* a note */; return x; }\n", "* a", 1, [f"expected one of: {VALUES}", "found: *"]),
+    (3, "fn main() -> int { return 7 // 2; }\n", "/ 2", 1, [f"expected one of: {VALUES}", "found: /"]),
+    (3, "fn main() -> int { return get remote(1, 2) f(); }\n", ", 2", 1, ["expected: )", "found: ,"]),
+    (3, "fn main() -> int { return get remote(f, 2); }\n", "f, 2", 1, ["expected: INT", "found: f"]),
     (4, "fn main() -> int { return " + "(" * 40 + "1" + ")" * 40 + "; }\n", "(" * 9 + "1", 1,
      ["expected: 32 brackets and prefixes open at one place at most", "found: one more"]),
     (4, "fn f(" + ", ".join(f"p{it}: int" for it in range(17)) + ") -> int { return 1; }\n", "p16", 3,

@@ -7,6 +7,7 @@ use Rattle.raysim_explain.specs.declared.hint.Hint.TheVariants.{Greater, AtLeast
 use Rattle.raysim_explain.specs.declared.hint.Hint.TheVariants.{ElseIf, Assignment, Statement, LoneCall, EmptyList, LastComma, Colon, NoResult, Truth, Semicolon}
 use Rattle.raysim_explain.specs.declared.hint.Hint.TheVariants.{ListType, Index, Unclosed, NamedArgument, Reserved, Function, Bounds, LonePush, LoneValue}
 use Rattle.raysim_explain.specs.declared.hint.Hint.TheVariants.{Break, Item, Sum, Mutable, Tuple, ListLoop, ByteOrderMark, LeastNumber}
+use Rattle.raysim_explain.specs.declared.hint.Hint.TheVariants.{VariableType, TypeName, SetOne, Inclusive, Retries}
 
 -- the byte at a place, and 0 where there is none
 abbrev pub byte_at : List ℕ → ℕ → ℕ
@@ -16,9 +17,17 @@ byte_at text place = unwrap_or (slice_get text place) 0
 abbrev pub is_blank : ℕ → Bool
 is_blank b = nat_eq b 32 || (nat_eq b 9 || (nat_eq b 13 || nat_eq b 10))
 
--- the last byte that is no blank, and 0 where there is none
+-- the last byte that is no blank behind one byte more, and 256 more in a comment, whose bytes are none of them
+abbrev pub before_step : ℕ → ℕ → ℕ
+before_step last b =
+    if nat_lt 255 last then (if nat_eq b 10 then last - 256 else last)
+    else if nat_eq b 35 then last + 256
+    else if is_blank b then last
+    else b
+
+-- the last byte that is no blank and in no comment, and 0 where there is none
 abbrev pub byte_before : List ℕ → ℕ
-byte_before text = fold (λ last b. if is_blank b then last else b) 0 text
+byte_before text = if nat_lt (fold before_step 0 text) 256 then fold before_step 0 text else 0
 
 -- the first byte that is no blank, and 0 where there is none
 unfoldable pub byte_behind : List ℕ → ℕ
@@ -87,10 +96,12 @@ statement_hint behind =
 abbrev pub is_in_word : ℕ → Bool
 is_in_word b = is_letter b || ((nat_lt 47 b && nat_lt b 58) || nat_eq b 95)
 
--- how many bytes of a word the last word has behind one byte more: all, too, where blanks or a [ follow it, and 99 in another word
+-- how many bytes of a word the last word has behind one byte more: all, too, where blanks or a [ follow it, 99 in another word, and 98 in a comment
 abbrev pub word_step : List ℕ → ℕ → ℕ → ℕ
 word_step word count b =
-    if is_blank b || nat_eq b 91 then (if nat_eq count (length word) then count else 0)
+    if nat_eq count 98 then (if nat_eq b 10 then 0 else 98)
+    else if nat_eq b 35 then 98
+    else if is_blank b || nat_eq b 91 then (if nat_eq count (length word) then count else 0)
     else if not (is_in_word b) then 0
     else if nat_lt count (length word) && nat_eq (byte_at word count) b then count + 1
     else 99
@@ -98,6 +109,17 @@ word_step word count b =
 -- it ends with exactly that word, and blanks or a [ behind it
 abbrev pub is_behind : List ℕ → List ℕ → Bool
 is_behind text word = nat_eq (fold (word_step word) 0 text) (length word)
+
+-- as word_step for the word remote, but 7 behind a ( that follows it, and behind digits and blanks there
+abbrev pub retry_step : ℕ → ℕ → ℕ
+retry_step count b =
+    if nat_eq count 6 && nat_eq b 40 then 7
+    else if nat_eq count 7 && (is_blank b || (nat_lt 47 b && nat_lt b 58)) then 7
+    else word_step (codes "remote") count b
+
+-- it ends in the brackets behind a remote, with no more than one number in them so far
+abbrev pub is_retries : List ℕ → Bool
+is_retries text = nat_eq (fold retry_step 0 text) 7
 
 -- how many bytes of a word stand behind one byte more, as in word_step: 100 where the statement has had that word, and 98 in a comment
 abbrev pub has_step : List ℕ → ℕ → ℕ → ℕ
@@ -114,10 +136,12 @@ has_step word count b =
 abbrev pub has_word : List ℕ → List ℕ → Bool
 has_word text word = nat_eq (fold (has_step word) 0 text) 100
 
--- how many brackets of a kind are open behind one byte more; none is behind a brace or a ;
+-- how many brackets of a kind are open behind one byte more, and 100 more in a comment, whose brackets are none; none is behind a brace or a ;
 abbrev pub open_step : ℕ → ℕ → ℕ → ℕ → ℕ
 open_step opens closes count b =
-    if nat_eq b opens && nat_lt count 99 then count + 1
+    if nat_lt 99 count then (if nat_eq b 10 then count - 100 else count)
+    else if nat_eq b 35 then count + 100
+    else if nat_eq b opens && nat_lt count 99 then count + 1
     else if nat_eq b closes && nat_lt 0 count then count - 1
     else if is_statement_begun b then 0
     else count
@@ -139,10 +163,13 @@ brace_step count b =
 abbrev pub is_outside : List ℕ → Bool
 is_outside text = nat_lt (fold brace_step 0 text) 2
 
--- what stands behind one byte more: a value's end (1), what a type follows (2), a [ behind the one (3) or the other (4), or else (0)
+-- what stands behind one byte more: a value's end (1), what a type follows (2), a [ behind the one (3) or the other (4), or else (0); 10 more in a
+-- comment
 abbrev pub bracket_step : ℕ → ℕ → ℕ
 bracket_step kind b =
-    if is_blank b then kind
+    if nat_lt 9 kind then (if nat_eq b 10 then kind - 10 else kind)
+    else if nat_eq b 35 then kind + 10
+    else if is_blank b then kind
     else if nat_eq b 91 then (if nat_eq kind 1 then 3 else if nat_eq kind 2 || nat_eq kind 4 then 4 else 0)
     else if is_value_end b then 1
     else if nat_eq b 58 || nat_eq b 62 then 2
@@ -162,6 +189,16 @@ is_value_wanted text =
 abbrev pub is_type_wanted : List ℕ → Bool
 is_type_wanted text = is_behind text (codes "empty") || is_behind text (codes "ref")
 
+-- a type stands behind it: behind a : or a ->, one of these words, or a [ behind them
+abbrev pub is_type_place : List ℕ → Bool
+is_type_place text = nat_eq (bracket_kind text) 2 || (nat_eq (bracket_kind text) 4 || is_type_wanted text)
+
+-- a variable's name stands in the statement: a let, a set, or a for without its in
+abbrev pub is_variable_named : List ℕ → Bool
+is_variable_named front =
+    if has_word front (codes "let") || has_word front (codes "set") then true
+    else has_word front (codes "for") && not (has_word front (codes "in"))
+
 -- of a ] right behind a [, with which the text before it ends
 abbrev pub bracket_hint : List ℕ → Option Hint
 bracket_hint front =
@@ -175,6 +212,7 @@ colon_hint front before =
     if is_within front 91 93 then None
     else if is_within front 40 41 then Some NamedArgument
     else if nat_eq before 41 && has_word front (codes "fn") then Some NoResult
+    else if is_variable_named front then Some VariableType
     else Some Colon
 
 -- of a {, with the text before it and the last byte of that
@@ -228,6 +266,7 @@ abbrev pub set_hint : List ℕ → List ℕ → ℕ → Option Hint
 set_hint token front behind =
     if not (has_word front (codes "set")) || is_behind front (codes "set") then None
     else if bytes_eq token (codes "[") then Some Item
+    else if bytes_eq token (codes ",") && not (is_within front 91 93) then Some SetOne
     else if is_sum_sign (byte_at token 0) && (nat_eq behind 61 || nat_eq behind (byte_at token 0)) then Some Sum
     else None
 
@@ -245,25 +284,55 @@ abbrev pub place_hint : List ℕ → List ℕ → ℕ → ℕ → Option Hint
 place_hint token front before behind =
     if bytes_eq token (codes "(") && is_behind front (codes "for") then Some Bounds
     else if bytes_eq token (codes "(") && is_behind front (codes "let") then Some Tuple
+    else if bytes_eq token (codes "(") && is_behind front (codes "set") then Some SetOne
     else if bytes_eq token (codes ",") && is_tuple front before then Some Tuple
+    else if bytes_eq token (codes "=") && nat_eq before 46 then Some Inclusive
     else word_hint token front behind
 
--- of a token that the grammar does not allow there, with the text before it and the bytes before and behind it that are no blanks
-abbrev pub token_hint : List ℕ → List ℕ → ℕ → ℕ → Option Hint
-token_hint token front before behind =
-    if bytes_eq token (codes "while") then Some While
-    else if bytes_eq token (codes "if") && is_behind front (codes "else") then Some ElseIf
-    else if bytes_eq token (codes "/") && nat_eq behind 47 then Some SlashComment
-    else if bytes_eq token (codes ":") then colon_hint front before
-    else if bytes_eq token (codes "{") then brace_hint front before
-    else if bytes_eq token (codes "]") && nat_eq before 91 then bracket_hint front
-    else if nat_eq before 44 && (bytes_eq token (codes "]") || bytes_eq token (codes ")")) then Some LastComma
-    else if bytes_eq token (codes "for") && is_within front 91 93 then Some ListLoop
+-- a token that the grammar does not allow there is of the // or /* with which a comment begins elsewhere
+abbrev pub is_slash_comment : List ℕ → ℕ → ℕ → Bool
+is_slash_comment token before behind =
+    if bytes_eq token (codes "/") then nat_eq before 47 || (nat_eq behind 47 || nat_eq behind 42)
+    else bytes_eq token (codes "*") && nat_eq before 47
+
+-- a name, or a (, where a type stands
+abbrev pub is_type_word : List ℕ → List ℕ → Bool
+is_type_word token front = if not (is_letter (byte_at token 0)) && not (bytes_eq token (codes "(")) then false else is_type_place front
+
+-- of a token that is none of those that mark_place_hint tells by themselves
+abbrev pub inside_hint : List ℕ → List ℕ → ℕ → ℕ → Option Hint
+inside_hint token front before behind =
+    if is_retries front then Some Retries
+    else if is_type_word token front then Some TypeName
     else if is_reserved token && is_name_wanted front before then Some Reserved
     else if nat_eq before 0 || is_statement_begun before then begun_hint token front behind
     else if not (lacks_semicolon token before) then place_hint token front before behind
     else if is_within front 91 93 || is_within front 40 41 then Some Unclosed
     else Some Semicolon
+
+-- of a :, of a bracket, of what stands behind a comma, and of a for in a list; else as inside_hint
+abbrev pub mark_place_hint : List ℕ → List ℕ → ℕ → ℕ → Option Hint
+mark_place_hint token front before behind =
+    if bytes_eq token (codes ":") then colon_hint front before
+    else if bytes_eq token (codes "{") then brace_hint front before
+    else if bytes_eq token (codes "]") && nat_eq before 91 then bracket_hint front
+    else if nat_eq before 44 && (bytes_eq token (codes "]") || bytes_eq token (codes ")")) then Some LastComma
+    else if bytes_eq token (codes "for") && is_within front 91 93 then Some ListLoop
+    else inside_hint token front before behind
+
+-- an if behind an else, or an elif behind a block
+abbrev pub is_else_if : List ℕ → List ℕ → ℕ → Bool
+is_else_if token front before =
+    if bytes_eq token (codes "elif") then nat_eq before 125
+    else bytes_eq token (codes "if") && is_behind front (codes "else")
+
+-- of a token that the grammar does not allow there, with the text before it and the bytes before and behind it that are no blanks
+abbrev pub token_hint : List ℕ → List ℕ → ℕ → ℕ → Option Hint
+token_hint token front before behind =
+    if bytes_eq token (codes "while") then Some While
+    else if is_else_if token front before then Some ElseIf
+    else if is_slash_comment token before behind then Some SlashComment
+    else mark_place_hint token front before behind
 
 -- of a name that is not in scope
 abbrev pub name_hint : List ℕ → Option Hint
@@ -300,9 +369,9 @@ hint_words Text = codes "there are no texts: values are numbers, lists and refer
 hint_words Fraction = codes "there are no fractions, and .. stands between the bounds of a loop"
 hint_words Method = codes "there are no methods: push(l, 3), len(l), remote f(1), get r"
 hint_words CapitalLetter = codes "names have small letters, digits and _ alone"
-hint_words SlashComment = codes "a comment begins with #"
+hint_words SlashComment = codes "a comment begins with # and ends with its line, and a quotient is written a / b"
 hint_words While = codes "there is no while: a for over as many turns as there may be, in a function that returns when it is done"
-hint_words ElseIf = codes "there is no else if: else { if a { } }"
+hint_words ElseIf = codes "there is no else if and no elif: else { if a { } }"
 hint_words Assignment = codes "let x = 2; makes a variable, and set x = 2; gives it another value"
 hint_words Statement = codes "a statement begins with let, set, if, for, print or return: set x = x + 1;"
 hint_words LoneCall = codes "a call alone is no statement: let unused = f();"
@@ -318,9 +387,14 @@ hint_words EmptyList = codes "an empty list says of which type its items are: em
 hint_words ListType = codes "a list's type names that of its items: [int]"
 hint_words Index = codes "an index stands between the brackets: l[0]"
 hint_words LastComma = codes "no comma stands behind the last one"
-hint_words Colon = codes "a block stands in { } and not behind a :, and a variable's type isn't written: let x = 1;"
+hint_words Colon = codes "a block stands in { } and not behind a :"
+hint_words VariableType = codes "a variable's type isn't written: let x = 1;"
+hint_words TypeName = codes "the types are int, [int] for a list, and ref int for a reference"
+hint_words SetOne = codes "set gives one variable a value: let a, b = f(); set x = a; set y = b;"
 hint_words NoResult = codes "a function says of which type its result is: fn f() -> int { }"
 hint_words Bounds = codes "a loop counts from one bound to another: for i in 0 .. len(l) { let x = l[i]; }"
+hint_words Inclusive = codes "there is no ..=, and a loop leaves out its second bound: for i in 1 .. n + 1 { }"
+hint_words Retries = codes "one number alone stands in the brackets behind remote, how many retries there may be: remote(2) f(1)"
 hint_words Truth = codes "there are no truth values: 1 and 0 stand for them"
 hint_words Semicolon = codes "a statement ends with ;, the block of an if or a for stands in { }, and an if is no value"
 hint_words Unclosed = codes "a ( or a [ before it is not closed"

@@ -1,11 +1,13 @@
 // What somebody who writes other languages may have meant. docs/refusals.md has the same in a table.
 
 ghost use Rattle.std.specs.Prelude.{◌≡◌};
-ghost use Rattle.raysim_explain.specs.Hints.{begun_hint, brace_hint, brace_step, bracket_hint, bracket_kind, bracket_step, byte_at, byte_before, byte_behind};
-ghost use Rattle.raysim_explain.specs.Hints.{colon_hint, has_step, has_word, hint_of, hint_words, inner_hint, is_behind, is_blank, is_in_word, is_letter};
-ghost use Rattle.raysim_explain.specs.Hints.{is_name_wanted, is_outside, is_reserved, is_statement_begun, is_statement_word, is_sum_sign, is_tuple};
-ghost use Rattle.raysim_explain.specs.Hints.{is_type_wanted, is_value_end, is_value_wanted, is_within, lacks_semicolon, mark_hint, name_hint, open_step};
-ghost use Rattle.raysim_explain.specs.Hints.{place_hint, run_hint, set_hint, sign_hint, statement_hint, token_hint, word_hint, word_step};
+ghost use Rattle.raysim_explain.specs.Hints.{before_step, begun_hint, brace_hint, brace_step, bracket_hint, bracket_kind, bracket_step, byte_at};
+ghost use Rattle.raysim_explain.specs.Hints.{byte_before, byte_behind, colon_hint, has_step, has_word, hint_of, hint_words, inner_hint, inside_hint};
+ghost use Rattle.raysim_explain.specs.Hints.{is_behind, is_blank, is_else_if, is_in_word, is_letter, is_name_wanted, is_outside, is_reserved, is_retries};
+ghost use Rattle.raysim_explain.specs.Hints.{is_slash_comment, is_statement_begun, is_statement_word, is_sum_sign, is_tuple, is_type_place, is_type_wanted};
+ghost use Rattle.raysim_explain.specs.Hints.{is_type_word, is_value_end, is_value_wanted, is_variable_named, is_within, lacks_semicolon, mark_hint};
+ghost use Rattle.raysim_explain.specs.Hints.{mark_place_hint, name_hint, open_step, place_hint, retry_step, run_hint, set_hint, sign_hint, statement_hint};
+ghost use Rattle.raysim_explain.specs.Hints.{token_hint, word_hint, word_step};
 
 use std::fmt;
 
@@ -32,11 +34,11 @@ pub enum Hint {
     Method,
     /// A name with a capital letter.
     CapitalLetter,
-    /// A comment that begins with `//`.
+    /// A comment that begins with `//` or `/*`.
     SlashComment,
     /// A `while`.
     While,
-    /// An `else if`.
+    /// An `else if` or an `elif`.
     ElseIf,
     /// `x = 2;`, without `set`.
     Assignment,
@@ -68,12 +70,22 @@ pub enum Hint {
     Index,
     /// A comma behind the last item.
     LastComma,
-    /// A colon before a block or a variable's type.
+    /// A colon before a block.
     Colon,
+    /// A variable's type, as `let x: int = 1;`.
+    VariableType,
+    /// A name where a type stands, as `i64`.
+    TypeName,
+    /// Several variables behind one `set`, or a bracket there.
+    SetOne,
     /// A function without a result's type, or with it behind a colon.
     NoResult,
     /// A loop without bounds, as `for x in l { }`.
     Bounds,
+    /// `..=` between the bounds of a loop.
+    Inclusive,
+    /// Anything but one number in the brackets behind `remote`.
+    Retries,
     /// `true` or `false`
     Truth,
     /// A `;` that is missing, or a block without braces.
@@ -109,17 +121,28 @@ fn is_blank(byte: u8) -> bool
     byte == b' ' || byte == b'\t' || byte == b'\r' || byte == b'\n'
 }
 
-/// The last byte of a text that is no blank, and 0 where there is none.
+/// The last byte that is no blank behind one byte more, and 256 more in a comment, whose bytes are none of them.
+fn before_step(last: usize, byte: u8) -> usize
+    ensures { result ≡ before_step last byte }
+{
+    if last > 255 {
+        return if byte == b'\n' { last - 256 } else { last };
+    }
+    if byte == b'#' {
+        return last + 256;
+    }
+    if is_blank(byte) { last } else { byte as usize }
+}
+
+/// The last byte of a text that is no blank and in no comment, and 0 where there is none.
 fn byte_before(text: &[u8]) -> u8
     ensures { result ≡ byte_before text.now }
 {
     let mut last = 0;
     for byte in text {
-        if !is_blank(*byte) {
-            last = *byte;
-        }
+        last = before_step(last, *byte);
     }
-    last
+    if last < 256 { last as u8 } else { 0 }
 }
 
 /// The first byte of a text that is no blank, and 0 where there is none.
@@ -253,10 +276,16 @@ fn is_in_word(byte: u8) -> bool
     is_letter(byte) || (byte > 47 && byte < 58) || byte == b'_'
 }
 
-/// How many bytes of a word the last word has behind one byte more: all, too, where blanks or a `[` follow it, and 99 in another word.
+/// How many bytes of a word the last word has behind one byte more: all, too, where blanks or a `[` follow it, 99 in another word, and 98 in a comment.
 fn word_step(word: &[u8], count: usize, byte: u8) -> usize
     ensures { result ≡ word_step word.now count byte }
 {
+    if count == 98 {
+        return if byte == b'\n' { 0 } else { 98 };
+    }
+    if byte == b'#' {
+        return 98;
+    }
     if is_blank(byte) || byte == b'[' {
         return if count == word.len() { count } else { 0 };
     }
@@ -307,6 +336,30 @@ fn has_step(word: &[u8], count: usize, byte: u8) -> usize
     }
 }
 
+/// As `word_step` for the word `remote`, but 7 behind a `(` that follows it, and behind digits and blanks there.
+fn retry_step(count: usize, byte: u8) -> usize
+    ensures { result ≡ retry_step count byte }
+{
+    if count == 6 && byte == b'(' {
+        return 7;
+    }
+    if count == 7 && (is_blank(byte) || (byte > 47 && byte < 58)) {
+        return 7;
+    }
+    word_step(b"remote".as_slice(), count, byte)
+}
+
+/// Whether a text ends in the brackets behind a `remote`, with no more than one number in them so far.
+fn is_retries(text: &[u8]) -> bool
+    ensures { result ≡ is_retries text.now }
+{
+    let mut count = 0;
+    for byte in text {
+        count = retry_step(count, *byte);
+    }
+    count == 7
+}
+
 /// Whether a word stands in the statement, or the head of a function, with which a text ends.
 fn has_word(text: &[u8], word: &[u8]) -> bool
     ensures { result ≡ has_word text.now word.now }
@@ -318,10 +371,16 @@ fn has_word(text: &[u8], word: &[u8]) -> bool
     count == 100
 }
 
-/// How many brackets of a kind are open behind one byte more. None is behind a brace or a `;`.
+/// How many brackets of a kind are open behind one byte more, and 100 more in a comment, whose brackets are none. None is behind a brace or a `;`.
 fn open_step(opens: u8, closes: u8, count: usize, byte: u8) -> usize
     ensures { result ≡ open_step opens closes count byte }
 {
+    if count > 99 {
+        return if byte == b'\n' { count - 100 } else { count };
+    }
+    if byte == b'#' {
+        return count + 100;
+    }
     if byte == opens && count < 99 {
         return count + 1;
     }
@@ -368,10 +427,17 @@ fn is_outside(text: &[u8]) -> bool
     count < 2
 }
 
-/// What stands behind one byte more: a value's end (1), what a type follows (2), a `[` behind the one (3) or the other (4), or else (0).
+/// What stands behind one byte more: a value's end (1), what a type follows (2), a `[` behind the one (3) or the other (4), or else (0); 10 more in a
+/// comment.
 fn bracket_step(kind: u8, byte: u8) -> u8
     ensures { result ≡ bracket_step kind byte }
 {
+    if kind > 9 {
+        return if byte == b'\n' { kind - 10 } else { kind };
+    }
+    if byte == b'#' {
+        return kind + 10;
+    }
     if is_blank(byte) {
         return kind;
     }
@@ -421,6 +487,24 @@ fn is_type_wanted(text: &[u8]) -> bool
     is_behind(text, b"empty".as_slice()) || is_behind(text, b"ref".as_slice())
 }
 
+/// Whether a type stands behind a text: behind a `:` or a `->`, one of these words, or a `[` behind them.
+fn is_type_place(text: &[u8]) -> bool
+    ensures { result ≡ is_type_place text.now }
+{
+    let kind = bracket_kind(text);
+    kind == 2 || kind == 4 || is_type_wanted(text)
+}
+
+/// Whether a statement begins so that a variable's name stands in it: a `let`, a `set`, or a `for` without its `in`.
+fn is_variable_named(front: &[u8]) -> bool
+    ensures { result ≡ is_variable_named front.now }
+{
+    if has_word(front, b"let".as_slice()) || has_word(front, b"set".as_slice()) {
+        return true;
+    }
+    has_word(front, b"for".as_slice()) && !has_word(front, b"in".as_slice())
+}
+
 /// Of a `]` right behind a `[`, with which the text before it ends.
 fn bracket_hint(front: &[u8]) -> Option<Hint>
     ensures { result ≡ bracket_hint front.now }
@@ -447,6 +531,9 @@ fn colon_hint(front: &[u8], before: u8) -> Option<Hint>
     }
     if before == b')' && has_word(front, b"fn".as_slice()) {
         return Some(Hint::NoResult);
+    }
+    if is_variable_named(front) {
+        return Some(Hint::VariableType);
     }
     Some(Hint::Colon)
 }
@@ -553,6 +640,9 @@ fn set_hint(token: &[u8], front: &[u8], behind: u8) -> Option<Hint>
     if token == b"[".as_slice() {
         return Some(Hint::Item);
     }
+    if token == b",".as_slice() && !is_within(front, b'[', b']') {
+        return Some(Hint::SetOne);
+    }
     if is_sum_sign(byte_at(token, 0)) && (behind == b'=' || behind == byte_at(token, 0)) {
         return Some(Hint::Sum);
     }
@@ -588,25 +678,67 @@ fn place_hint(token: &[u8], front: &[u8], before: u8, behind: u8) -> Option<Hint
     if token == b"(".as_slice() && is_behind(front, b"let".as_slice()) {
         return Some(Hint::Tuple);
     }
+    if token == b"(".as_slice() && is_behind(front, b"set".as_slice()) {
+        return Some(Hint::SetOne);
+    }
     if token == b",".as_slice() && is_tuple(front, before) {
         return Some(Hint::Tuple);
+    }
+    if token == b"=".as_slice() && before == b'.' {
+        return Some(Hint::Inclusive);
     }
     word_hint(token, front, behind)
 }
 
-/// Of a token that the grammar does not allow there, with the text before it and the bytes before and behind it that are no blanks.
-fn token_hint(token: &[u8], front: &[u8], before: u8, behind: u8) -> Option<Hint>
-    ensures { result ≡ token_hint token.now front.now before behind }
+/// Whether a token that the grammar does not allow there is of the `//` or `/*` with which a comment begins elsewhere.
+fn is_slash_comment(token: &[u8], before: u8, behind: u8) -> bool
+    ensures { result ≡ is_slash_comment token.now before behind }
 {
-    if token == b"while".as_slice() {
-        return Some(Hint::While);
+    if token == b"/".as_slice() {
+        return before == b'/' || behind == b'/' || behind == b'*';
     }
-    if token == b"if".as_slice() && is_behind(front, b"else".as_slice()) {
-        return Some(Hint::ElseIf);
+    token == b"*".as_slice() && before == b'/'
+}
+
+/// Whether a token is a name, or a `(`, where a type stands.
+fn is_type_word(token: &[u8], front: &[u8]) -> bool
+    ensures { result ≡ is_type_word token.now front.now }
+{
+    if !is_letter(byte_at(token, 0)) && token != b"(".as_slice() {
+        return false;
     }
-    if token == b"/".as_slice() && behind == b'/' {
-        return Some(Hint::SlashComment);
+    is_type_place(front)
+}
+
+/// Of a token that is none of those.
+fn inside_hint(token: &[u8], front: &[u8], before: u8, behind: u8) -> Option<Hint>
+    ensures { result ≡ inside_hint token.now front.now before behind }
+{
+    if is_retries(front) {
+        return Some(Hint::Retries);
     }
+    if is_type_word(token, front) {
+        return Some(Hint::TypeName);
+    }
+    if is_reserved(token) && is_name_wanted(front, before) {
+        return Some(Hint::Reserved);
+    }
+    if before == 0 || is_statement_begun(before) {
+        return begun_hint(token, front, behind);
+    }
+    if !lacks_semicolon(token, before) {
+        return place_hint(token, front, before, behind);
+    }
+    if is_within(front, b'[', b']') || is_within(front, b'(', b')') {
+        return Some(Hint::Unclosed);
+    }
+    Some(Hint::Semicolon)
+}
+
+/// Of a `:`, of a bracket, of what stands behind a comma, and of a `for` in a list; else as `inside_hint`.
+fn mark_place_hint(token: &[u8], front: &[u8], before: u8, behind: u8) -> Option<Hint>
+    ensures { result ≡ mark_place_hint token.now front.now before behind }
+{
     if token == b":".as_slice() {
         return colon_hint(front, before);
     }
@@ -622,19 +754,33 @@ fn token_hint(token: &[u8], front: &[u8], before: u8, behind: u8) -> Option<Hint
     if token == b"for".as_slice() && is_within(front, b'[', b']') {
         return Some(Hint::ListLoop);
     }
-    if is_reserved(token) && is_name_wanted(front, before) {
-        return Some(Hint::Reserved);
+    inside_hint(token, front, before, behind)
+}
+
+/// Whether a token is an `if` behind an `else`, or an `elif` behind a block.
+fn is_else_if(token: &[u8], front: &[u8], before: u8) -> bool
+    ensures { result ≡ is_else_if token.now front.now before }
+{
+    if token == b"elif".as_slice() {
+        return before == b'}';
     }
-    if before == 0 || is_statement_begun(before) {
-        return begun_hint(token, front, behind);
+    token == b"if".as_slice() && is_behind(front, b"else".as_slice())
+}
+
+/// Of a token that the grammar does not allow there, with the text before it and the bytes before and behind it that are no blanks.
+fn token_hint(token: &[u8], front: &[u8], before: u8, behind: u8) -> Option<Hint>
+    ensures { result ≡ token_hint token.now front.now before behind }
+{
+    if token == b"while".as_slice() {
+        return Some(Hint::While);
     }
-    if !lacks_semicolon(token, before) {
-        return place_hint(token, front, before, behind);
+    if is_else_if(token, front, before) {
+        return Some(Hint::ElseIf);
     }
-    if is_within(front, b'[', b']') || is_within(front, b'(', b')') {
-        return Some(Hint::Unclosed);
+    if is_slash_comment(token, before, behind) {
+        return Some(Hint::SlashComment);
     }
-    Some(Hint::Semicolon)
+    mark_place_hint(token, front, before, behind)
 }
 
 /// Of a name that is not in scope.
@@ -689,11 +835,12 @@ impl Hint {
             Hint::Fraction => "there are no fractions, and .. stands between the bounds of a loop",
             Hint::Method => "there are no methods: push(l, 3), len(l), remote f(1), get r",
             Hint::CapitalLetter => "names have small letters, digits and _ alone",
-            Hint::SlashComment => "a comment begins with #",
+            Hint::SlashComment =>
+                "a comment begins with # and ends with its line, and a quotient is written a / b",
             Hint::While => {
                 "there is no while: a for over as many turns as there may be, in a function that returns when it is done"
             }
-            Hint::ElseIf => "there is no else if: else { if a { } }",
+            Hint::ElseIf => "there is no else if and no elif: else { if a { } }",
             Hint::Assignment =>
                 "let x = 2; makes a variable, and set x = 2; gives it another value",
             Hint::Statement => {
@@ -717,12 +864,17 @@ impl Hint {
             Hint::ListType => "a list's type names that of its items: [int]",
             Hint::Index => "an index stands between the brackets: l[0]",
             Hint::LastComma => "no comma stands behind the last one",
-            Hint::Colon => {
-                "a block stands in { } and not behind a :, and a variable's type isn't written: let x = 1;"
-            }
+            Hint::Colon => "a block stands in { } and not behind a :",
+            Hint::VariableType => "a variable's type isn't written: let x = 1;",
+            Hint::TypeName => "the types are int, [int] for a list, and ref int for a reference",
+            Hint::SetOne => "set gives one variable a value: let a, b = f(); set x = a; set y = b;",
             Hint::NoResult => "a function says of which type its result is: fn f() -> int { }",
             Hint::Bounds =>
                 "a loop counts from one bound to another: for i in 0 .. len(l) { let x = l[i]; }",
+            Hint::Inclusive =>
+                "there is no ..=, and a loop leaves out its second bound: for i in 1 .. n + 1 { }",
+            Hint::Retries =>
+                "one number alone stands in the brackets behind remote, how many retries there may be: remote(2) f(1)",
             Hint::Truth => "there are no truth values: 1 and 0 stand for them",
             Hint::Semicolon => {
                 "a statement ends with ;, the block of an if or a for stands in { }, and an if is no value"

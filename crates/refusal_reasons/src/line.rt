@@ -121,6 +121,9 @@ fn spacing(line: &[u8]) -> Option<LineReason<'_>> {
     if has(line, b'\r') {
         return Some(LineReason::CarriageReturn);
     }
+    if has(line, b'#') {
+        return Some(LineReason::CommentInside);
+    }
     if has(line, b'\t') {
         return Some(LineReason::Tab);
     }

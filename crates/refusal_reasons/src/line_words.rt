@@ -20,6 +20,8 @@ pub enum LineReason<'a> {
     NoLineFeed,
     /// A carriage return stands in it.
     CarriageReturn,
+    /// A `#` stands in it, but not in front.
+    CommentInside,
     Tab,
     /// Another byte that no line has, which is this one.
     Unprintable(u8),
@@ -116,6 +118,9 @@ impl fmt::Display for LineReason<'_> {
             LineReason::CarriageReturn => {
                 f.write_str("a carriage return stands in it: lines end with a line feed alone")
             }
+            LineReason::CommentInside => f.write_str(
+                "# stands in it: a comment is a line of its own, which begins with #",
+            ),
             LineReason::Tab => f.write_str(
                 "a tab stands in it: one space stands between two words",
             ),

@@ -15,6 +15,9 @@ TOP = os.path.dirname(os.path.dirname(os.path.abspath(__file__)))
 MANUAL, BASH, ZSH = "docs/raysim.1", "docs/completions/raysim.bash", "docs/completions/_raysim"
 # what an option's value is completed to, by the name that help gives it
 FILES, FOLDERS = ("FILE",), ("DIR",)
+# the values that there are of some options, each of which its help names, and those of which several may stand, with commas between them
+VALUES = {"--to": ("dask", "ray"), "--of": ("kill", "notice", "kill-node", "lose", "evict")}
+LISTED = ("--of",)
 STATUS = [
     ("0", "A script is in order; main ended with a value; no fault was found that main doesn't survive."),
     ("1", "Main ended with a trap; or something was refused, with --so-far too; or a file beside the report could not be written; or a word of the command line is at fault; or help or the version was asked for."),
@@ -45,6 +48,9 @@ class Option:
         self.long = re.search(r"--[a-z-]+", form)[0]
         self.short = (re.match(r"-[A-Za-z]\b", form) or [None])[0]
         self.value = (re.search(r"<(\w+)>", form) or [None, None])[1]
+        unnamed = [it for it in VALUES.get(self.long, ()) if not re.search(rf"(?<![a-z-]){it}(?![a-z-])", does)]
+        if unnamed:
+            sys.exit(f"help names no {', '.join(unnamed)} of {self.long}")
 
 
 def rows(said, head):
@@ -116,12 +122,18 @@ def bash(whole, commands):
     values = sorted({it.long for command in commands for it in command.options if it.value})
     files = sorted({it.long for command in commands for it in command.options if it.value in FILES})
     folders = sorted({it.long for command in commands for it in command.options if it.value in FOLDERS})
-    others = [it for it in values if it not in files and it not in folders]
+    others = [it for it in values if it not in files and it not in folders and it not in VALUES]
     asked = []
     if files:
         asked.append(f"        {'|'.join(files)}) COMPREPLY=($(compgen -f -- \"$word\")); return ;;")
     if folders:
         asked.append(f"        {'|'.join(folders)}) COMPREPLY=($(compgen -d -- \"$word\")); return ;;")
+    for it in values:
+        if it in LISTED:
+            asked.append(f"        {it})\n            compopt -o nospace\n            before=${{word%\"${{word##*,}}\"}}")
+            asked.append(f"            COMPREPLY=($(compgen -P \"$before\" -W '{' '.join(VALUES[it])}' -- \"${{word##*,}}\"))\n            return\n            ;;")
+        elif it in VALUES:
+            asked.append(f"        {it}) COMPREPLY=($(compgen -W '{' '.join(VALUES[it])}' -- \"$word\")); return ;;")
     if others:
         asked.append(f"        {'|'.join(others)}) return ;;")
     names = " ".join([*(it.name for it in commands), *(it.long for it in whole.options)])
@@ -156,6 +168,9 @@ def quoted(text):
 def zsh(whole, commands):
     def option(it):
         kind = {"FILE": ":file:_files", "DIR": ":folder:_files -/"}.get(it.value, f":{it.value}:" if it.value else "")
+        if it.long in VALUES:
+            named = " ".join(VALUES[it.long])
+            kind += f"_values -s , {it.value} {named}" if it.long in LISTED else f"({named})"
         return f"'{it.long}[{quoted(it.does)}]{kind}'"
 
     lines = ["#compdef raysim", "# Completions of raysim for zsh: put this file into a folder of fpath. Made by tools/manual.py from the program's help.", "_raysim() {",

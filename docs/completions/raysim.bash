@@ -8,7 +8,14 @@ _raysim() {
     case $before in
         --history|--lineage|--page|--plan|--timeline) COMPREPLY=($(compgen -f -- "$word")); return ;;
         --out) COMPREPLY=($(compgen -d -- "$word")); return ;;
-        --at|--most|--nodes|--of|--slots|--threads|--to) return ;;
+        --of)
+            compopt -o nospace
+            before=${word%"${word##*,}"}
+            COMPREPLY=($(compgen -P "$before" -W 'kill notice kill-node lose evict' -- "${word##*,}"))
+            return
+            ;;
+        --to) COMPREPLY=($(compgen -W 'dask ray' -- "$word")); return ;;
+        --at|--most|--nodes|--slots|--threads) return ;;
     esac
     case ${COMP_WORDS[1]} in
         check) words='--explain --help' ;;

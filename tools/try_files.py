@@ -874,6 +874,7 @@ def try_words(trial):
     seated = re.sub(rb"(?m)^(\d.*)$", rb"\1 (seat 1)", LOG)
     trial.run("log sq.ray of_1_4.ev --nodes 2", 0, noted.format("--nodes 2 --slots 4"), seated)
     trial.run("why sq.ray", 0, report=b"Main ended in event 12 (commit 3): 0.\n")
+    trial.run("why --help", 1, re.compile(r".*\nUsage: raysim why \[OPTIONS\] <script> \[events\] \[what\]\n.*\n  \[what\]  .*", re.S))
     trial.run("why sq.ray settle.ev", 0, report=b"Main ended in event 12 (commit 3, line 1): 0.\n")
     trial.run("why sq.ray settle.ev o1.1", 0, report=WHY)
     trial.same("why sq.ray of_1_4.ev o1.1 --nodes 3", "why sq.ray of_1_4.ev o1.1", noted.format("--nodes 3 --slots 4"))

@@ -162,7 +162,7 @@ fn why<'a>(matches: &ArgMatches<'a>) -> WhyOptions<'a>
     WhyOptions {
         script: needed(matches, "script"),
         events: text(matches, "events"),
-        object: text(matches, "object"),
+        object: text(matches, "what"),
         nodes: number(matches, "nodes", MOST_NODES, 1),
         slots: number(matches, "slots", MOST_SLOTS, 4),
         full: flag(matches, "full"),

@@ -240,7 +240,7 @@ const WHY: Subcommand<'static> = Subcommand {
         EXPLAIN,
         SOME_EVENTS,
         Parameter {
-            id: "object",
+            id: "what",
             kind: Kind::Optional,
             help: "The object, worker or node, as o1.2, w3 or n1 (if left out, why main ended or what it waits for is told)",
         },

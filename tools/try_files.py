@@ -705,8 +705,12 @@ def try_endpoints(trial):
     told += b"a1.1#0 (sq) ended in event 10 (commit 2): 9.\n"
     told += b"w1 accepted a1.1#0 (sq) in event 11 (deliver 7), and keeps the result itself: no node can lose it.\nw2 has nothing to do now.\n"
     trial.run("why two.ray w2", 0, report=told)
+    # (w2 is opened and dies before it runs anything, so nothing made what it would own)
+    FILES["unborn.ev"] = b"claim 1\ncommit 1\ndeliver 1\nkill 2\nnotice 1 2\n"
+    told = b"There is no o2.1: w2, which would own it, never made it.\nw2, the owner of o2.1, died in event 4 (kill 2, line 4).\n"
+    trial.run("why two.ray unborn.ev o2.1", 2, report=told + b"w1 learned in event 5 (notice 1 2, line 5) that w2 was dead.\n")
     trial.run("why two.ray n2", 0, report=b"There is no n2.\n")
-    trial.run("why two.ray o7.7", 0, report=b"There is no o7.7.\n")
+    trial.run("why two.ray o7.7", 0, report=b"There is no o7.7: w7, which would own it, never made it.\n")
     trial.run("why two.ray settle.ev w7", 0, report=b"There is no w7.\n")
     trial.run("why two.ray settle.ev x7", 1, "x7 is no object, worker or node: they are written as o1.2, w3 and n1\n")
 

@@ -1,6 +1,7 @@
 -- Why an object is as it is.
 use Rattle.std.specs.Prelude.{ℕ, zero, suc, ◌+◌, if◌then◌else◌, List, [], ◌∷◌, ◌++◌, codes, length, Option, Some, None, take}
 use Rattle.std.specs.List.{flat_map}
+use Rattle.std.specs.Fmt.{decimal}
 use Rattle.report.specs.ValueTexts.{id_text}
 use Rattle.meaning.specs.Values.{Id, Birth}
 use Rattle.meaning.specs.Births.{Bearing, birth_at, same_id}
@@ -25,10 +26,10 @@ sentences how s births lines log place m (x ∷ rest) =
     sentence how s births lines (take place log) (moment_after lines m x) x (refused_next rest)
     ++ sentences how s births lines log (place + 1) (moment_after lines m x) rest
 
--- there is no such object
+-- There is no o9.9: w9, which would own it, never made it.
 unfoldable pub unborn_note : Id → Option Birth → List ℕ
 unborn_note o (Some b) = []
-unborn_note o None = codes "There is no " ++ (id_text o ++ codes ".\n")
+unborn_note o None = codes "There is no " ++ (id_text o ++ (codes ": w" ++ (decimal o.owner ++ codes ", which would own it, never made it.\n")))
 
 -- of an object, whose task is named by that one: that there is none, or what the entries say one by one
 abbrev pub account_of : Contents → List Entry → List ℕ → Id → Id → List ℕ

@@ -30,7 +30,11 @@ fn write_unborn(
     if birth.is_some() {
         return Ok(());
     }
-    write!(text, "There is no {object}.\n")
+    let owner = object.owner;
+    write!(
+        text,
+        "There is no {object}: {owner}, which would own it, never made it.\n"
+    )
 }
 
 fn write_sentences(

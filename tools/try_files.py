@@ -803,8 +803,8 @@ o1.1: made by sq, owner w1, released
 o1.1: 0 of 3 retries used
 """
 SUMMARY = b"""summary
-function main: 1 tasks, 1 attempts, 0 for deaths, 0 for losses, 1 results, 0 faults, 0 given up
-function sq: 1 tasks, 1 attempts, 0 for deaths, 0 for losses, 1 results, 0 faults, 0 given up
+function main: 1 task, 1 attempt, 0 for deaths, 0 for losses, 1 result, 0 faults, 0 given up
+function sq: 1 task, 1 attempt, 0 for deaths, 0 for losses, 1 result, 0 faults, 0 given up
 message Ask: 1 sent, 1 delivered
 message Give: 1 sent, 1 delivered
 message Back: 1 sent, 1 delivered
@@ -814,7 +814,7 @@ message FinishedAck: 1 sent, 1 delivered
 event claim: 3 came, 0 refused
 event commit: 3 came, 0 refused
 event deliver: 6 came, 0 refused
-opened: 2 workers on 1 nodes
+opened: 2 workers on 1 node
 """
 
 # A put of a list that is cut where it isn't asked for whole, and of whose release its node is told.

@@ -7,23 +7,34 @@ use Rattle.meaning.specs.Values.{Birth, Name, Put, Task}
 use Rattle.event_log.specs.Entries.{Born, Entry}
 use Rattle.summary_text.specs.Below.{below}
 use Rattle.summary_text.specs.Columns.{born_in, column_count}
+use Rattle.summary_text.specs.Counted.{noun}
 use Rattle.summary_text.specs.declared.columns.Column.TheVariants.{AfterDeaths, AfterLosses, Attempts, Faults, GivenUp, Results, Tasks}
 
 -- function sq: 3 tasks
 unfoldable pub tasks_words : Name → ℕ → List ℕ
-tasks_words g tasks = codes "function " ++ (g ++ (codes ": " ++ (decimal tasks ++ codes " tasks")))
+tasks_words g tasks =
+    codes "function " ++ (g ++ (codes ": " ++ (decimal tasks ++ (codes " " ++ noun tasks (codes "task") (codes "tasks")))))
 
 -- , 4 attempts, 1 for deaths, 0 for losses
 unfoldable pub attempts_words : ℕ → ℕ → ℕ → List ℕ
 attempts_words attempts deaths losses =
     codes ", "
-    ++ (decimal attempts ++ (codes " attempts, " ++ (decimal deaths ++ (codes " for deaths, " ++ (decimal losses ++ codes " for losses")))))
+    ++ (decimal attempts
+    ++ (codes " "
+    ++ (noun attempts (codes "attempt") (codes "attempts")
+    ++ (codes ", " ++ (decimal deaths ++ (codes " for deaths, " ++ (decimal losses ++ codes " for losses")))))))
 
 -- , 3 results, 0 faults, 0 given up
 unfoldable pub ends_words : ℕ → ℕ → ℕ → List ℕ
 ends_words results faults given_up =
     codes ", "
-    ++ (decimal results ++ (codes " results, " ++ (decimal faults ++ (codes " faults, " ++ (decimal given_up ++ codes " given up\n")))))
+    ++ (decimal results
+    ++ (codes " "
+    ++ (noun results (codes "result") (codes "results")
+    ++ (codes ", "
+    ++ (decimal faults
+    ++ (codes " "
+    ++ (noun faults (codes "fault") (codes "faults") ++ (codes ", " ++ (decimal given_up ++ codes " given up\n")))))))))
 
 -- a function with so many tasks
 unfoldable pub function_line : List Entry → Name → ℕ → List ℕ

@@ -1,5 +1,6 @@
 pub mod Below
 pub mod Columns
+pub mod Counted
 pub mod Functions
 pub mod Messages
 pub mod Events

@@ -3,6 +3,7 @@ use Rattle.std.specs.Prelude.{Bool, List, [], codes, false, if◌then◌else◌,
 use Rattle.std.specs.List.{list_any}
 use Rattle.std.specs.Fmt.{decimal}
 use Rattle.event_log.specs.Entries.{Entry, Opened}
+use Rattle.summary_text.specs.Counted.{noun}
 
 abbrev pub is_opened : Entry → Bool
 is_opened (Opened w n) = true
@@ -28,4 +29,10 @@ node_count (x ∷ rest) = (if is_last x rest then 1 else 0) + node_count rest
 
 -- opened: 3 workers on 2 nodes
 unfoldable pub opened_line : List Entry → List ℕ
-opened_line log = codes "opened: " ++ (decimal (opened_count log) ++ (codes " workers on " ++ (decimal (node_count log) ++ codes " nodes\n")))
+opened_line log =
+    codes "opened: "
+    ++ (decimal (opened_count log)
+    ++ (codes " "
+    ++ (noun (opened_count log) (codes "worker") (codes "workers")
+    ++ (codes " on "
+    ++ (decimal (node_count log) ++ (codes " " ++ (noun (node_count log) (codes "node") (codes "nodes") ++ codes "\n")))))))

@@ -10,6 +10,7 @@ ghost use Rattle.summary_text.specs.Functions.{attempts_words, birth_line, born_
 ghost use Rattle.summary_text.specs.Functions.{is_known, others_text, tasks_words};
 
 use crate::columns::{Column, column_count, is_born_of};
+use crate::counted::noun;
 use log_entries::Entry;
 use log_words::BirthIndex;
 use report_text::AttemptStates;
@@ -21,7 +22,8 @@ use task_spec::Birth;
 fn write_tasks(text: &mut String, function: &str, tasks: usize) -> Result<(), AllocError>
     ensures { OnOk result (string_bytes text.new ≡ string_bytes text.old ++ tasks_words function.now tasks) }
 {
-    write!(text, "function {function}: {tasks} tasks")
+    let word = noun(tasks, "task", "tasks");
+    write!(text, "function {function}: {tasks} {word}")
 }
 
 /// Writes how many attempts there were, and how many of them were needed because of deaths and of losses.
@@ -34,9 +36,10 @@ fn write_attempts(
 ) -> Result<(), AllocError>
     ensures { OnOk result (string_bytes text.new ≡ string_bytes text.old ++ attempts_words attempts deaths losses) }
 {
+    let word = noun(attempts, "attempt", "attempts");
     write!(
         text,
-        ", {attempts} attempts, {deaths} for deaths, {losses} for losses"
+        ", {attempts} {word}, {deaths} for deaths, {losses} for losses"
     )
 }
 
@@ -50,9 +53,11 @@ fn write_ends(
 ) -> Result<(), AllocError>
     ensures { OnOk result (string_bytes text.new ≡ string_bytes text.old ++ ends_words results faults given_up) }
 {
+    let of_results = noun(results, "result", "results");
+    let of_faults = noun(faults, "fault", "faults");
     write!(
         text,
-        ", {results} results, {faults} faults, {given_up} given up\n"
+        ", {results} {of_results}, {faults} {of_faults}, {given_up} given up\n"
     )
 }
 

@@ -2,6 +2,7 @@
 #![tactic(auto)]
 
 mod columns;
+mod counted;
 mod events;
 mod functions;
 mod messages;

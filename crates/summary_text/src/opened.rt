@@ -4,6 +4,7 @@ ghost use Rattle.std.specs.Prelude.{◌≡◌, ◌++◌, OnOk, string_bytes};
 ghost use Rattle.std.specs.List.{list_any};
 ghost use Rattle.summary_text.specs.Opened.{is_last, is_opened, is_opened_on, node_count, opened_count, opened_line};
 
+use crate::counted::noun;
 use ids::NodeId;
 use log_entries::Entry;
 use std::alloc::AllocError;
@@ -80,5 +81,10 @@ pub fn write_opened(text: &mut String, log: &[Entry]) -> Result<(), AllocError>
 {
     let workers = opened_count(log);
     let nodes = node_count(log);
-    write!(text, "opened: {workers} workers on {nodes} nodes\n")
+    let of_workers = noun(workers, "worker", "workers");
+    let of_nodes = noun(nodes, "node", "nodes");
+    write!(
+        text,
+        "opened: {workers} {of_workers} on {nodes} {of_nodes}\n"
+    )
 }

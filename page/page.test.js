@@ -61,7 +61,7 @@ w1 begins a1.0#0: main()
     w1 releases o1.1
 `;
 const REPORT = ['print 49', 'main value 0', 'attempt a1.1#0 w2 open', 'attempt a1.1#1 w3 accepted', 'released o1.1', 'refused 30 claim 2'];
-const run = () => new Run({ cluster: { nodes: 1, slots: 2 }, script: SCRIPT, log: LOG, report: REPORT.join('\n') + '\n', state: 'after event 18 of 18\n' });
+const run = () => new Run({ cluster: { nodes: 1, slots: 2 }, script: SCRIPT, log: LOG, report: REPORT.join('\n') + '\n', state: 'behind event 18 of 18\n' });
 
 const TWO = `fn two(n: int) -> (int, [int]) { return n, [n, n, n, n, n, n, n, n]; }
 fn main() -> int {

@@ -499,7 +499,7 @@ def is_page(bytes_, nodes=1):
         and run["report"].encode() == REPORT
         and "    w1 sends message 1 to n1: Ask(a1.1#0, 0)\n" in run["log"]
         and run["log"].endswith("    w1 releases o1.1\n")
-        and run["state"].startswith("after event 12 of 12\n")
+        and run["state"].startswith("behind event 12 of 12\n")
     )
 
 
@@ -790,7 +790,7 @@ w1 accepted a1.1#0 (sq) in event 8 (deliver 4, line 1), and keeps the result its
 a1.0#0 (main) got o1.1 in event 8 (deliver 4, line 1): 49.
 w1 released o1.1 in event 12 (commit 3, line 1): nothing needed it any more.
 """
-STATE = b"""after event 12 of 12
+STATE = b"""behind event 12 of 12
 n1: alive, 0 of 4 slots taken
 n1: workers w1 w2
 n2: alive, 0 of 4 slots taken

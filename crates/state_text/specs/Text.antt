@@ -16,9 +16,9 @@ abbrev pub event_count : List Entry → ℕ
 event_count [] = 0
 event_count (x ∷ rest) = counted x + event_count rest
 
--- after event 12 of 30
+-- behind event 12 of 30
 unfoldable pub head_text : List Entry → ℕ → List ℕ
-head_text log all = codes "after event " ++ (decimal (event_count log) ++ (codes " of " ++ (decimal all ++ codes "\n")))
+head_text log all = codes "behind event " ++ (decimal (event_count log) ++ (codes " of " ++ (decimal all ++ codes "\n")))
 
 -- of a run's log and its tables, where so many events come in all
 unfoldable pub state_text : List Entry → ClusterState → ℕ → List ℕ

@@ -31,7 +31,7 @@ fn write_head(text: &mut String, log: &[Entry], all: usize) -> Result<(), AllocE
     ensures { OnOk result (string_bytes text.new ≡ string_bytes text.old ++ head_text log.now all) }
 {
     let count = event_count(log);
-    write!(text, "after event {count} of {all}\n")
+    write!(text, "behind event {count} of {all}\n")
 }
 
 fn write_state(

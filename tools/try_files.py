@@ -711,8 +711,14 @@ def try_endpoints(trial):
     trial.run("why two.ray unborn.ev o2.1", 2, report=told + b"w1 learned in event 5 (notice 1 2, line 5) that w2 was dead.\n")
     trial.run("why two.ray n2", 0, report=b"There is no n2.\n")
     trial.run("why two.ray o7.7", 0, report=b"There is no o7.7: w7, which would own it, never made it.\n")
+    # (a word that is no name is the event file's)
+    names = "is no object, worker or node: they are written as o1.2, w3 and n1\n"
+    for word in ["O1.1", "o1", "a1.1#0"]:
+        missing = f"refused 50\nreading {word} failed: No such file or directory (os error 2)\n"
+        trial.run(f"why two.ray {word}", 1, f"{missing}{word} {names}")
+        trial.run(f"log two.ray {word}", 1, missing)
     trial.run("why two.ray settle.ev w7", 0, report=b"There is no w7.\n")
-    trial.run("why two.ray settle.ev x7", 1, "x7 is no object, worker or node: they are written as o1.2, w3 and n1\n")
+    trial.run("why two.ray settle.ev x7", 1, f"x7 {names}")
 
 
 def sum_of(script):

@@ -9,7 +9,7 @@ use crate::outputs::{Paths, are_fit};
 use crate::replays::{migrate_events, over_events, state_at};
 use crate::scripts::{Command, over_script};
 use crate::threads::over_threads;
-use crate::told::{explain, fault, no_memory};
+use crate::told::{NO_NAME, explain, fault, no_memory};
 use clap::error::ErrorKind;
 use raysim_calls::{Call, CallFault, DriveCall, ReplayCall, ThreadsCall, Views, call_of};
 use raysim_commands::Form;
@@ -43,11 +43,7 @@ pub fn answer<R: Files + Print + Eprint + AllocGlobal + Threads + Wait + Clock +
 fn tell_fault<R: Eprint>(rt: &R, at_fault: CallFault<'_>) -> ExitCode {
     match at_fault {
         CallFault::NoEngine(word) => fault(rt, word, "is no engine: there are dask and ray"),
-        CallFault::NoName(word) => fault(
-            rt,
-            word,
-            "is no object, worker or node: they are written as o1.2, w3 and n1",
-        ),
+        CallFault::NoName(word) => fault(rt, word, NO_NAME),
         CallFault::NoNumber(word) => fault(rt, word, "is no number of an event"),
         CallFault::NoKind(name) => no_kind(rt, name),
         CallFault::NoCount(word) => fault(rt, word, "is no number of lists"),

@@ -5,7 +5,7 @@ use crate::inputs::{ReadEvents, first_bytes, read_events, read_plain_events, rea
 use crate::limits::print_so_far;
 use crate::pages::is_page_written;
 use crate::reasons::{Course, Known, List};
-use crate::told::{Printed, Stop, tell, tell_beside};
+use crate::told::{NO_NAME, Printed, Stop, fault, tell, tell_beside};
 use crate::traps::with_trap_of_replay;
 use crate::views::{memory_of, write_done};
 use raysim_calls::{ReplayCall, View, Views};
@@ -13,6 +13,7 @@ use raysim_commands::{Cluster, CommandRefusal, Form, RunMemory, Tracked, migrate
 use raysim_files::WithError;
 use refusal_reasons::ListKind;
 use std::io;
+use std::io::ErrorKind;
 use std::process::ExitCode;
 use std::rt::Files;
 
@@ -44,6 +45,25 @@ fn tell_misfits_of<R: Eprint + AllocGlobal>(rt: &R, replayed: &ReplayCall<'_>, t
     tell_misfits(rt, events, front, replayed.cluster, script, text);
 }
 
+/// What the word may be that is read as an event file.
+#[derive(Clone, Copy, Debug, PartialEq, Eq)]
+enum Word {
+    /// A file alone.
+    File,
+    /// A file, or else the name of an object, a worker or a node.
+    FileOrName,
+}
+
+impl Word {
+    /// What it may be where that is told of the replay: of one word behind the script `why` asks first whether it is a name.
+    fn of(form: Form) -> Word {
+        match form {
+            Form::WhyMain(_) => Word::FileOrName,
+            _ => Word::File,
+        }
+    }
+}
+
 /// What was read of both files, and how the list's begins.
 #[derive(Drop)]
 pub struct Texts {
@@ -63,7 +83,7 @@ pub fn over_events<R: Files + Print + Eprint + AllocGlobal>(
     form: Form,
     views: &Views<'_>,
 ) -> ExitCode {
-    let Some(texts) = read_texts(rt, replayed, ListKind::Events) else {
+    let Some(texts) = read_texts(rt, replayed, ListKind::Events, Word::of(form)) else {
         return ExitCode::FAILURE;
     };
     let ending = print_all(rt, replayed, &texts, &form, views);
@@ -101,7 +121,7 @@ pub fn migrate_events<R: Files + Print + Eprint + AllocGlobal>(
     rt: &R,
     replayed: &ReplayCall<'_>,
 ) -> ExitCode {
-    let Some(texts) = read_texts(rt, replayed, ListKind::FirstFormat) else {
+    let Some(texts) = read_texts(rt, replayed, ListKind::FirstFormat, Word::File) else {
         return ExitCode::FAILURE;
     };
     let printed = print_migrated(rt, replayed.cluster, &texts);
@@ -122,7 +142,7 @@ pub fn state_at<R: Files + Print + Eprint + AllocGlobal>(
     replayed: &ReplayCall<'_>,
     at: usize,
 ) -> ExitCode {
-    let Some(texts) = read_texts(rt, replayed, ListKind::Events) else {
+    let Some(texts) = read_texts(rt, replayed, ListKind::Events, Word::File) else {
         return ExitCode::FAILURE;
     };
     let printed = print_state(rt, replayed.cluster, &texts, at);
@@ -205,11 +225,23 @@ fn read_first_format<'a, R: Files + AllocGlobal>(
     Ok(ReadEvents { events, front })
 }
 
+/// Tells that a word is no name either, where there is no such file.
+fn tell_no_name<R: Eprint>(rt: &R, stop: Stop<'_>, word: Word) {
+    match stop {
+        Stop::Unread(file, error)
+            if word == Word::FileOrName && error.kind() == ErrorKind::NotFound => {
+            fault(rt, file, NO_NAME);
+        }
+        _ => {}
+    }
+}
+
 /// Reads both files, or tells why they can't be read.
 fn read_texts<R: Files + Eprint + AllocGlobal>(
     rt: &R,
     replayed: &ReplayCall<'_>,
     kind: ListKind,
+    word: Word,
 ) -> Option<Texts> {
     let script = match read_script_file(rt, replayed.script) {
         Ok(script) => script,
@@ -239,6 +271,7 @@ fn read_texts<R: Files + Eprint + AllocGlobal>(
                 stop,
                 &known_of(replayed, kind, script.as_slice(), shown.as_slice()),
             );
+            tell_no_name(rt, stop, word);
             None
         }
     }

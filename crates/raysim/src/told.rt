@@ -11,6 +11,9 @@ use std::process::ExitCode;
 /// What the standard output is called.
 pub const OUTPUT: &str = "the standard output";
 
+/// Why a word names nothing of a run.
+pub const NO_NAME: &str = "is no object, worker or node: they are written as o1.2, w3 and n1";
+
 /// The most that is kept of a plan, and of a list's settle lines.
 const MOST_OF_A_PLAN: &str = "262,144 lines of a plan that say something";
 

@@ -671,13 +671,13 @@ def try_limits(trial):
     stopped = "".join(f"{it} is not written, since the run was stopped\n" for it in ["t", "l", "p"])
     three = "--timeline t --lineage l --page p"
     trial.run(f"run bad.ray {on} --so-far {three}", 1, f"refused 37\n{limit}{remedy}{stopped}", report=re.compile(rb"main open\n.*", re.S))
-    met = limit.replace("20586 (deliver 20584)", "100000 (deliver 20584)") + remedy
+    met = limit.replace("20586 (deliver 20584)", "100000 (deliver 20584)").replace("limit: ", "the last event met another limit, ") + remedy
     limit = "limit: 100,000 events, those of settle lines counted\n"
     alone = "what to do: give each task more to do: each takes some ten events\n"
     remedy = "what to do: leave out lines of which nothing comes, or give each task more to do: each takes some ten events\n"
     # (with a fault at each place the run is settled first, which goes on behind what is refused 37)
-    trial.run(f"faults bad.ray {on} --most 1 --out new", 1, f"refused 41\n{limit}{met}{alone}")
-    trial.run(f"faults bad.ray settle.ev {on} --most 1", 1, f"refused 41\n{limit}{met.replace('84)', '84, line 1)')}{remedy}")
+    trial.run(f"faults bad.ray {on} --most 1 --out new", 1, f"refused 41\n{limit}{met}")
+    trial.run(f"faults bad.ray settle.ev {on} --most 1", 1, f"refused 41\n{limit}{met.replace('84)', '84, line 1)')}")
     # (a run of 100,002 events has a report, and nothing that is made from its replay)
     FILES["long.ray"] = b"fn f() -> int { return 1; }\nfn main() -> int { for i in 0 .. 10000 { let unused = get remote f(); } return 0; }\n"
     long = re.escape(f"refused 41\n{limit}") + r"the last step was in event 100000 \([a-z]+ \d+\)\n" + re.escape(alone)
@@ -690,12 +690,13 @@ def try_limits(trial):
     place = "the last step was in event 100000 (tick 1, line 100000)\n"
     trial.run("sim sq.ray bad.plan", 1, f"refused 41\n{limit}{place}{remedy}")
     FILES["bad.plan"] = b"join\n" * 100001
-    place = "limit: 64 nodes in all, dead ones too: one more would have joined in event 100000 (join, line 100000)\n"
+    place = "the last event met another limit, 64 nodes in all, dead ones too: one more would have joined in event 100000 (join, line 100000)\n"
     place += "what to do: let fewer nodes join\n"
-    trial.run("sim sq.ray bad.plan", 1, f"refused 41\n{limit}{place}{remedy}")
-    trial.run("sim sq.ray bad.plan --so-far --nodes 64", 1, f"refused 41\n{limit}{place}{remedy}", report=b"main open\n" + b"refused 37 join\n" * 100000)
-    trial.run(f"sim sq.ray bad.plan --so-far --json {three}", 1, f"refused 41\n{limit}{place}{remedy}{stopped}", report=re.compile(rb"{.*}\n"))
-    trial.run("run sq.ray --so-far --threads 2", 1, "--so-far is for no run on threads\n")
+    trial.run("sim sq.ray bad.plan", 1, f"refused 41\n{limit}{place}")
+    trial.run("sim sq.ray bad.plan --so-far --nodes 64", 1, f"refused 41\n{limit}{place}", report=b"main open\n" + b"refused 37 join\n" * 100000)
+    trial.run(f"sim sq.ray bad.plan --so-far --json {three}", 1, f"refused 41\n{limit}{place}{stopped}", report=re.compile(rb"{.*}\n"))
+    for more in ["--threads 2", "--plan no.plan", "--history new"]:
+        trial.run(f"run sq.ray --so-far {more}", 1, "--so-far can't be given with --threads, --plan or --history\n")
 
 
 def try_endpoints(trial):
@@ -945,6 +946,8 @@ def try_life(trial):
     trial.run("run bad.ray --progress --stream", 1, "refused 10 at 26..27\n")
     tried = re.compile(r"(\r\d of 3 lists tried, \d+ s)*\r3 of 3 lists tried, \d+ s\n")
     trial.run("faults sq.ray --most 3 --progress", 0, tried, trial.written("faults sq.ray --most 3"))
+    alone = re.compile(r"(\r\d of 1 list tried, \d+ s)*\r1 of 1 list tried, \d+ s\n")
+    trial.run("faults sq.ray --most 1 --progress", 0, alone, trial.written("faults sq.ray --most 1"))
 
 
 def try_names(trial):

@@ -47,7 +47,11 @@ fn tell_fault<R: Eprint>(rt: &R, at_fault: CallFault<'_>) -> ExitCode {
         CallFault::NoNumber(word) => fault(rt, word, "is no number of an event"),
         CallFault::NoKind(name) => no_kind(rt, name),
         CallFault::NoCount(word) => fault(rt, word, "is no number of lists"),
-        CallFault::SoFarOnThreads => fault(rt, "--so-far", "is for no run on threads"),
+        CallFault::SoFarOnThreads => fault(
+            rt,
+            "--so-far",
+            "can't be given with --threads, --plan or --history",
+        ),
     }
 }
 

@@ -118,7 +118,7 @@ pub fn tell_length<R: Eprint>(rt: &R, file: &str, history: &[u8]) {
     let events = lines.saturating_sub(1);
     if events > MOST_EVENTS {
         let _ = eprintln!(rt;
-            "note: {file} has {events} events, and no more than {MOST_EVENTS} are replayed: sim, log, why, state and faults stop there (refused 41)"
+            "note: {file} has {events} events, and no more than 100,000 are replayed: sim, log, why, state and faults stop there (refused 41)"
         );
     }
 }

@@ -262,7 +262,8 @@ impl<'a, R: Eprint + AllocGlobal + Clock> TrialLife<'a, R> {
 
     fn tell(&mut self, count: usize, all: usize, passed: Duration) {
         let seconds = passed.as_secs();
-        let text = format!(in self.line.rt.alloc(); "{count} of {all} lists tried, {seconds} s");
+        let lists = if all == 1 { "list" } else { "lists" };
+        let text = format!(in self.line.rt.alloc(); "{count} of {all} {lists} tried, {seconds} s");
         if let Ok(text) = text {
             self.line.write(text.as_str(), passed);
         }

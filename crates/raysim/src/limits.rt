@@ -87,10 +87,32 @@ fn tell_possible<R: Eprint>(rt: &R) {
     let _ = eprintln!(rt; "limit: {POSSIBLE}\nwhat to do: {FEWER_OF_EACH}");
 }
 
+/// Writes which event of too many was the last, and says whether that tells what to do, too: it does where the last one met another limit, as a join
+/// that stands again and again.
+fn write_last<R: Eprint>(rt: &R, text: &str, has_lines: bool) -> bool {
+    match text.split_once("limit: ") {
+        Some((before, limit)) if before.is_empty() => {
+            let _ = eprint!(rt; "the last event met another limit, ");
+            write_place(rt, limit, has_lines);
+            true
+        }
+        _ => {
+            write_place(rt, text, has_lines);
+            false
+        }
+    }
+}
+
 /// Tells that there were too many events, which was the last, and what to do.
 fn tell_too_long<R: Eprint + AllocGlobal>(rt: &R, known: &Known<'_, '_>) {
     let _ = eprintln!(rt; "limit: 100,000 events, those of settle lines counted");
-    tell_place(rt, known);
+    let is_told = match so_far(rt, known, Form::Limit) {
+        Some(Ok(met)) => write_last(rt, met.text.as_str(), known.has_lines()),
+        _ => false,
+    };
+    if is_told {
+        return;
+    }
     let before = if known.has_lines() { LEAVE_OUT } else { "" };
     let _ = eprintln!(rt; "what to do: {before}{FEWER_EVENTS}");
 }

@@ -20,8 +20,8 @@ use std::thread::Threads;
 /// Reads a script's text and then a plan, runs the script on this cluster on 1 to 8 threads beside the plan (docs/protocol.md, "Turns"), and
 /// writes the history of the run, as an event file of format 2, and then its report (docs/runs.md, "The report"), or what else the form asks for of it. On
 /// threads nobody counts the messages behind each event, and no event has a line in a file: a form that tells of these tells of none. The gate is told of
-/// each job before it is run. Replayed by `sim` on the same cluster, the history gives the same report, if it has at most 100,000 events and by its
-/// log each job was handed in once. The status is 0 where main ends with a value, 1 where it ends with a trap, and 2 where it is open or has a fault.
+/// each job before it is run. Replayed by `sim` on the same cluster, the history gives the same report, if it has at most 100,000 events. The status is 0
+/// where main ends with a value, 1 where it ends with a trap, and 2 where it is open or has a fault.
 ///
 /// Else the refusal says why: `At` where the text is no script that the rules allow, `BadLine` where a line is none of a plan, `Stopped` with
 /// 37 where the run was given up at a limit, `NoMemory`, or `Failed` where a read or a write failed within the call. The script is read and

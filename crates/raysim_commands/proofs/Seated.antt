@@ -1,5 +1,5 @@
 -- The events of a history came from seats that a history may name.
-use Rattle.std.proofs.Common.{◌≡◌, ◌≤◌, ◌<◌, ℕ, zero, suc, List, [], ◌∷◌, refl, sym, subst, arith}
+use Rattle.std.proofs.Common.{◌≤◌, ◌<◌, ℕ, zero, suc, List, [], ◌∷◌, refl, sym, subst, arith}
 use Rattle.meaning.specs.Syntax.{Script}
 use Rattle.event_log.specs.Entries.{Entry, Event}
 use Rattle.event_files.specs.declared.line.Line.{Line}

@@ -156,32 +156,31 @@ fn report_of<
     Err(Failed("an event was refused"))
 }
 
+/// The same, with new books, a new log and new tickets.
+fn report_in<S: ScriptName, R: Wait>(
+    rt: &R,
+    alloc: Global,
+    script: &Compiled,
+) -> Result<String, Failed>
+    requires { script_of script.now ≡ S.script }
+{
+    report_of::<S, Brand, Brand, Brand, Brand, Brand, Brand, Brand, Brand, Brand, R>(
+        rt,
+        alloc,
+        script,
+        Blanks::new(3),
+        Blanks::new(1),
+        OpenedLog::new(),
+        OpenedTickets::new(alloc)?,
+    )
+}
+
 /// The report of a run with the events of two seats, one of which kills a worker.
 pub fn a_run_by_claim_commit_and_step<R: AllocGlobal + Wait>(rt: &R) -> Checked {
     let alloc = rt.alloc();
     let text = "fn one() -> int { return 1; }\nfn main() -> int { return get remote(0) one(); }\n";
     let script = script(alloc, text)?;
-    let report = report_of::<
-        Brand,
-        Brand,
-        Brand,
-        Brand,
-        Brand,
-        Brand,
-        Brand,
-        Brand,
-        Brand,
-        Brand,
-        R,
-    >(
-        rt,
-        alloc,
-        &script,
-        Blanks::new(3),
-        Blanks::new(1),
-        OpenedLog::new(),
-        OpenedTickets::new(alloc)?,
-    )?;
+    let report = report_in::<Brand, R>(rt, alloc, &script)?;
     let wanted =
         "main fault RetriesUsed o1.1\nattempt a1.1#0 w2 open\nresolved o1.1 RetriesUsed o1.1\nreleased o1.1\n";
     wants(report.as_str() == wanted, "the report")

@@ -129,10 +129,11 @@ impl IdleWorkers {
         &self.rows
     }
 
-    /// Adds the worker, unless it is there. On an error, which is want of memory, nothing is added.
+    /// Adds the worker, unless it is there. An error is want of memory for a worker that isn't there yet, and nothing is added then.
     pub fn add(&mut self, worker: WorkerId) -> Result<(), AllocError>
         ensures ok { OnOk result (self.new ≡ (if list_any (λ v. v == worker) self.old then self.old else self.old ++ worker ∷ [])) }
         ensures err { OnErr result (self.new ≡ self.old) }
+        ensures grows { OnErr result (list_any (λ v. v == worker) self.old ≡ false) }
     {
         if is_listed(&self.marks, &self.rows, worker) {
             return Ok(());

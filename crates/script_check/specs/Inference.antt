@@ -313,6 +313,3 @@ are_apart before (f ∷ fs) = is_absent (function_in before f.name) && are_apart
 abbrev pub is_main_good : Option parsed.Function → Bool
 is_main_good None = false
 is_main_good (Some f) = nat_eq (length f.parameters) 0 && same_kind (kind_named f.result) Number && is_single f.others
-
-abbrev pub script_from : parsed.Program → Option Script
-script_from program = if are_apart [] program && is_main_good (function_in program main_name) then functions_from program program else None

@@ -1,6 +1,6 @@
 // How an object gains and loses the objects that hold it, and whether any holder is left.
 
-ghost use Rattle.std.specs.Prelude.{◌≡◌, ◌↔◌, ◌&&◌, ◌||◌, None, OnErr, OnOk, Some, not, true};
+ghost use Rattle.std.specs.Prelude.{◌≡◌, ◌↔◌, ◌&&◌, ◌||◌, None, OnErr, OnOk, Some, false, not, true};
 ghost use Rattle.meaning.specs.Births.{same_id};
 ghost use Rattle.meaning.specs.Values.{Id};
 ghost use Rattle.protocol.specs.Sets.{has_id};
@@ -12,11 +12,12 @@ use number_lists::{add_object, has_object};
 use protocol_data::Object;
 use std::alloc::AllocError;
 
-/// Adds a holder. One that was removed before doesn't come to hold the object again. On an error, which is want of memory, the object is as it
-/// was.
+/// Adds a holder. One that was removed before doesn't come to hold the object again. An error is want of memory for a holder that was never added, and
+/// the object is as it was then.
 pub fn add(object: &mut Object, holder: ObjectId) -> Result<(), AllocError>
     ensures step { OnOk result (object.new ≡ with_holder holder object.old) }
     ensures err { OnErr result (object.new ≡ object.old) }
+    ensures grows { OnErr result (has_id object.old.added holder ≡ false) }
     ensures added { (e : Id) → OnOk result (holds object.new e ≡ ((has_id object.old.added e || same_id holder e) && not (has_id object.old.removed e))) }
     ensures late { has_id object.old.removed holder ≡ true → (e : Id) → OnOk result (holds object.new e ≡ holds object.old e) }
 {
@@ -24,10 +25,11 @@ pub fn add(object: &mut Object, holder: ObjectId) -> Result<(), AllocError>
     Ok(())
 }
 
-/// Removes a holder, and no other. On an error, which is want of memory, the object is as it was.
+/// Removes a holder, and no other. An error is want of memory for a holder that was never removed, and the object is as it was then.
 pub fn remove(object: &mut Object, holder: ObjectId) -> Result<(), AllocError>
     ensures step { OnOk result (object.new ≡ without_holder holder object.old) }
     ensures err { OnErr result (object.new ≡ object.old) }
+    ensures grows { OnErr result (has_id object.old.removed holder ≡ false) }
     ensures removed { (e : Id) → OnOk result (holds object.new e ≡ (holds object.old e && not (same_id holder e))) }
 {
     add_object(&mut object.removed, holder)?;
@@ -44,11 +46,12 @@ fn first_dead(kept: Option<ObjectId>, holder: ObjectId) -> ObjectId
     }
 }
 
-/// Removes a holder whose owner is dead, and no other, and keeps it as the dead holder, unless another one is kept. On an error, which is want
-/// of memory, the object is as it was.
+/// Removes a holder whose owner is dead, and no other, and keeps it as the dead holder, unless another one is kept. An error is want of memory for a
+/// holder that was never removed, and the object is as it was then.
 pub fn remove_dead(object: &mut Object, holder: ObjectId) -> Result<(), AllocError>
     ensures step { OnOk result (object.new ≡ with_dead_holder holder object.old) }
     ensures err { OnErr result (object.new ≡ object.old) }
+    ensures grows { OnErr result (has_id object.old.removed holder ≡ false) }
     ensures removed { (e : Id) → OnOk result (holds object.new e ≡ (holds object.old e && not (same_id holder e))) }
     ensures kept { object.old.dead_holder ≡ None → OnOk result (object.new.dead_holder ≡ Some holder) }
     ensures first { (d : Id) → object.old.dead_holder ≡ Some d → OnOk result (object.new.dead_holder ≡ Some d) }

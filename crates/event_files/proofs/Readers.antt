@@ -19,7 +19,7 @@ use Rattle.event_files.specs.declared.line.Line.{Line}
 use Rattle.event_files.specs.declared.line.Line.TheVariants as lines
 use Rattle.event_files.specs.declared.plan.PlanLine.{PlanLine}
 use Rattle.event_files.specs.Lines.{AreEvents, AreWorkers, IsLine, workers_text, line_text}
-use Rattle.event_files.specs.Plans.{may_be_planned, plan_line_at, plan_line_in, IsPlanLine, plan_line_text}
+use Rattle.event_files.specs.Plans.{is_outside, plan_line_at, plan_line_in, IsPlanLine, plan_line_text}
 use Rattle.event_files.specs.Files.{Row, Said, is_passed, AreRows, rows_text, all_said, IsFile}
 use Rattle.event_files.specs.Reading.{pick, go_on, has, parted, behind, number_in, event_in, workers_in, settle_in, line_in}
 use Rattle.event_files.specs.Printing.{events_text}
@@ -137,10 +137,10 @@ plan_line_in-is bytes =
     pick_keeps (IsPlanLineIn bytes) (event_in x.1) _ None (λ v g.
     by_test bytes x n v (given_of (IsParted 32 bytes) (parted 32 bytes) x (parted-is 32 bytes) e).are
     (given_of (λ m. (m < 2 ^ 64) × (x.0 ≡ decimal m)) (number_in 64 x.0) n (number_in-is 64 x.0) f)
-    (given_of (IsEventIn x.1) (event_in x.1) v (event_in-is x.1) g) (may_be_planned v) refl) tt) tt) tt
+    (given_of (IsEventIn x.1) (event_in x.1) v (event_in-is x.1) g) (is_outside v) refl) tt) tt) tt
   where
     by_test : (bytes : List ℕ) (x : List ℕ × List ℕ) (n : ℕ) (v : Event) → bytes ≡ x.0 ++ 32 ∷ x.1 → (n < 2 ^ 64) × (x.0 ≡ decimal n) → IsEventIn x.1 v →
-        (t : Bool) → may_be_planned v ≡ t → IfSome (go_on (if t then Some v else None) (λ p. Some (plan_line_at n p))) (IsPlanLineIn bytes)
+        (t : Bool) → is_outside v ≡ t → IfSome (go_on (if t then Some v else None) (λ p. Some (plan_line_at n p))) (IsPlanLineIn bytes)
     by_test bytes x n v e f g true k = record {
       is = (f.0, g.fits, k);
       written = e ∙ ap (λ z. z ++ 32 ∷ x.1) f.1 ∙ ap (λ z. decimal n ++ 32 ∷ z) g.written;

@@ -8,23 +8,23 @@ use Rattle.event_files.specs.declared.plan.PlanLine.{PlanLine}
 use Rattle.event_files.specs.Lines.{IsEvent}
 use Rattle.event_files.specs.Reading.{go_on, parted, number_in, event_in}
 
--- claims, commits and deliveries are the run's own
-abbrev pub may_be_planned : Event → Bool
-may_be_planned (Claim w) = false
-may_be_planned (Commit j) = false
-may_be_planned (Deliver m) = false
-may_be_planned _ = true
+-- the event comes from outside, as a plan may have it: claims, commits and deliveries are the run's own
+abbrev pub is_outside : Event → Bool
+is_outside (Claim w) = false
+is_outside (Commit j) = false
+is_outside (Deliver m) = false
+is_outside _ = true
 
--- the event may be planned, and the numbers fit their types
+-- the event comes from outside, and the numbers fit their types
 abbrev pub IsPlanLine : PlanLine → Type 0
-IsPlanLine p = (p.commits < 2 ^ 64) × IsEvent p.event × (may_be_planned p.event ≡ true)
+IsPlanLine p = (p.commits < 2 ^ 64) × IsEvent p.event × (is_outside p.event ≡ true)
 
 -- C EVENT
 abbrev pub plan_line_text : PlanLine → List ℕ
 plan_line_text p = decimal p.commits ++ (codes " " ++ event_text p.event)
 
 abbrev pub planned : Event → Option Event
-planned e = if may_be_planned e then Some e else None
+planned e = if is_outside e then Some e else None
 
 abbrev pub plan_line_at : ℕ → Event → PlanLine
 plan_line_at commits event = record { commits = commits; event = event }

@@ -1,7 +1,7 @@
 // Plans: what happens to a run from outside, behind how many commits, read line by line or whole.
 
 ghost use Rattle.std.specs.Prelude.{◌≡◌, IfOk, IfErr};
-ghost use Rattle.event_files.specs.Plans.{may_be_planned, plan_line_in, IsPlanLine, plan_line_text};
+ghost use Rattle.event_files.specs.Plans.{is_outside, plan_line_in, IsPlanLine, plan_line_text};
 ghost use Rattle.event_files.specs.Files.{IsFile, IsRefusal};
 
 use crate::error::EventError;
@@ -29,9 +29,9 @@ pub struct RunPlan {
     pub lines: Seq<PlanLine>,
 }
 
-/// Whether a plan may have the event: a claim, a commit and a delivery are the run's own.
-fn may_be_planned(event: &Event) -> bool
-    ensures { result ≡ may_be_planned event.now }
+/// Whether the event comes from outside, as a plan may have it: claims, commits and deliveries are the run's own.
+fn is_outside(event: &Event) -> bool
+    ensures { result ≡ is_outside event.now }
 {
     !matches!(
         event,
@@ -53,7 +53,7 @@ pub fn read_plan_line(text: &[u8]) -> Option<PlanLine>
     let Some(event) = read_event(back) else {
         return None;
     };
-    if may_be_planned(&event) {
+    if is_outside(&event) {
         return Some(PlanLine { commits, event });
     }
     None

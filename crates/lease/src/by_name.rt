@@ -3,7 +3,7 @@
 ghost use Rattle.std.specs.Prelude.{◌≡◌, OnErr, OnOk, Some};
 ghost use Rattle.number_lists.specs.of_protocol.Nodes.{AskReply};
 ghost use Rattle.number_lists.specs.of_protocol.Slots.{asked, asks_slot, forgets, frees, is_back, replies, reply_to};
-ghost use Rattle.lease.specs.Promises.{IsWithinSlots};
+ghost use Rattle.lease.specs.Promises.{ComesIdle, ComesToAsk, IsWithinSlots, PassesOn};
 
 use crate::scheduler::{ask, back, blocked, killed, unblocked};
 use ids::{AttemptId, WorkerId};
@@ -43,6 +43,7 @@ impl Scheduling for NodeContext {
     fn back(&mut self, worker: WorkerId, attempt: AttemptId) -> Result<(), AllocError>
         ensures step { OnOk result (self.new ≡ is_back self.old worker attempt) }
         ensures err { OnErr result (self.new ≡ self.old) }
+        ensures grows { OnErr result (ComesIdle self.old worker attempt) }
         ensures slots { IsWithinSlots self.old → OnOk result (IsWithinSlots self.new) }
     {
         back(self, worker, attempt)
@@ -51,6 +52,7 @@ impl Scheduling for NodeContext {
     fn blocked(&mut self, alloc: Global, worker: WorkerId) -> Result<(), AllocError>
         ensures step { OnOk result (self.new ≡ frees self.old worker) }
         ensures err { OnErr result (self.new ≡ self.old) }
+        ensures grows { OnErr result (PassesOn self.old worker) }
         ensures slots { IsWithinSlots self.old → OnOk result (IsWithinSlots self.new) }
     {
         blocked(alloc, self, worker)
@@ -59,6 +61,7 @@ impl Scheduling for NodeContext {
     fn unblocked(&mut self, alloc: Global, worker: WorkerId) -> Result<(), AllocError>
         ensures step { OnOk result (self.new ≡ asks_slot self.old worker) }
         ensures err { OnErr result (self.new ≡ self.old) }
+        ensures grows { OnErr result (ComesToAsk self.old worker) }
         ensures slots { IsWithinSlots self.old → OnOk result (IsWithinSlots self.new) }
     {
         unblocked(alloc, self, worker)
@@ -67,6 +70,7 @@ impl Scheduling for NodeContext {
     fn killed(&mut self, alloc: Global, worker: WorkerId) -> Result<(), AllocError>
         ensures step { OnOk result (self.new ≡ forgets self.old worker) }
         ensures err { OnErr result (self.new ≡ self.old) }
+        ensures grows { OnErr result (PassesOn self.old worker) }
         ensures slots { IsWithinSlots self.old → OnOk result (IsWithinSlots self.new) }
     {
         killed(alloc, self, worker)

@@ -3,7 +3,7 @@
 ghost use Rattle.std.specs.Prelude.{◌≡◌, OnErr, OnOk, Some, None};
 ghost use Rattle.number_lists.specs.of_protocol.Nodes.{AskReply};
 ghost use Rattle.number_lists.specs.of_protocol.Slots.{asked, asks_slot, forgets, frees, is_back, replies, reply_to};
-ghost use Rattle.lease.specs.Promises.{IsWithinSlots};
+ghost use Rattle.lease.specs.Promises.{ComesIdle, ComesToAsk, IsWithinSlots, PassesOn};
 
 use crate::asks::asked;
 use crate::grants::{ask_slot, forget, free, note_back};
@@ -30,6 +30,7 @@ pub fn ask(alloc: Global, there: &mut NodeContext, key: &AskKey) -> Result<(), A
 pub fn back(there: &mut NodeContext, worker: WorkerId, attempt: AttemptId) -> Result<(), AllocError>
     ensures step { OnOk result (there.new ≡ is_back there.old worker attempt) }
     ensures err { OnErr result (there.new ≡ there.old) }
+    ensures grows { OnErr result (ComesIdle there.old worker attempt) }
     ensures slots { IsWithinSlots there.old → OnOk result (IsWithinSlots there.new) }
 {
     note_back(there, worker, attempt)?;
@@ -40,6 +41,7 @@ pub fn back(there: &mut NodeContext, worker: WorkerId, attempt: AttemptId) -> Re
 pub fn blocked(alloc: Global, there: &mut NodeContext, worker: WorkerId) -> Result<(), AllocError>
     ensures step { OnOk result (there.new ≡ frees there.old worker) }
     ensures err { OnErr result (there.new ≡ there.old) }
+    ensures grows { OnErr result (PassesOn there.old worker) }
     ensures slots { IsWithinSlots there.old → OnOk result (IsWithinSlots there.new) }
 {
     free(alloc, there, worker)?;
@@ -51,6 +53,7 @@ pub fn blocked(alloc: Global, there: &mut NodeContext, worker: WorkerId) -> Resu
 pub fn unblocked(alloc: Global, there: &mut NodeContext, worker: WorkerId) -> Result<(), AllocError>
     ensures step { OnOk result (there.new ≡ asks_slot there.old worker) }
     ensures err { OnErr result (there.new ≡ there.old) }
+    ensures grows { OnErr result (ComesToAsk there.old worker) }
     ensures slots { IsWithinSlots there.old → OnOk result (IsWithinSlots there.new) }
 {
     let _ = alloc;
@@ -62,6 +65,7 @@ pub fn unblocked(alloc: Global, there: &mut NodeContext, worker: WorkerId) -> Re
 pub fn killed(alloc: Global, there: &mut NodeContext, worker: WorkerId) -> Result<(), AllocError>
     ensures step { OnOk result (there.new ≡ forgets there.old worker) }
     ensures err { OnErr result (there.new ≡ there.old) }
+    ensures grows { OnErr result (PassesOn there.old worker) }
     ensures slots { IsWithinSlots there.old → OnOk result (IsWithinSlots there.new) }
 {
     forget(alloc, there, worker)?;

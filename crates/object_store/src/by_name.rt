@@ -1,7 +1,8 @@
 // A store of copies as a type's own calls.
 
-ghost use Rattle.std.specs.Prelude.{◌≡◌, IfNone, IfOk, OnErr, OnOk};
-ghost use Rattle.protocol.specs.Stores.{copy_in, evict_refusal, evicted, lose_refusal, looked_up, with_primary, with_secondary, without_copies};
+ghost use Rattle.std.specs.Prelude.{◌≡◌, ◌≢◌, IfNone, IfOk, None, OnErr, OnOk, false};
+ghost use Rattle.std.specs.List.{list_any};
+ghost use Rattle.protocol.specs.Stores.{copy_in, evict_refusal, evicted, is_copy_of, lose_refusal, looked_up, with_primary, with_secondary, without_copies};
 ghost use Rattle.object_store.specs.Refusals.{refused};
 
 use crate::stores::{evict, get, lose, put_primary, put_secondary};
@@ -22,7 +23,7 @@ pub trait CopyStore {
     ) -> Result<(), AllocError>;
 
     /// Puts a secondary copy as the one used last, unless there is a primary one. Where there are sixteen others, the one used longest ago goes.
-    /// An error is want of memory.
+    /// An error is want of memory for a copy that no primary one stands for.
     fn put_secondary(
         &mut self,
         alloc: Global,
@@ -32,7 +33,7 @@ pub trait CopyStore {
     ) -> Result<(), AllocError>;
 
     /// The content of a copy, a primary before a secondary one. A secondary copy that is found is the one used last; where none is found the store is
-    /// as it was. An error is want of memory.
+    /// as it was. An error is want of memory for a copy that is found.
     fn get(
         &mut self,
         alloc: Global,
@@ -69,6 +70,7 @@ impl CopyStore for Store {
     ) -> Result<(), AllocError>
         ensures ok { OnOk result (self.new ≡ with_secondary self.old object number content) }
         ensures err { OnErr result (self.new ≡ self.old) }
+        ensures grows { OnErr result (list_any (is_copy_of object number) self.old.primaries ≡ false) }
     {
         put_secondary(alloc, self, object, number, content)
     }
@@ -83,6 +85,7 @@ impl CopyStore for Store {
         ensures after { OnOk result (self.new ≡ looked_up self.old object number) }
         ensures none { IfOk result (λ c. IfNone c (self.new ≡ self.old)) }
         ensures err { OnErr result (self.new ≡ self.old) }
+        ensures grows { OnErr result (copy_in self.old object number ≢ None) }
     {
         get(alloc, self, object, number)
     }

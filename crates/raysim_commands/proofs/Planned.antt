@@ -1,17 +1,9 @@
 -- The lines of a plan that was read are events from outside.
-use Rattle.std.proofs.Common.{◌≡◌, ℕ, zero, suc, true, List, [], ◌∷◌, Option, Some, None, refl, sym, ◌∙◌, subst}
-use Rattle.log_entries.specs.declared.event.Event.{Event}
-use Rattle.log_entries.specs.declared.event.Event.TheVariants.{Claim, Commit, Deliver}
+use Rattle.std.proofs.Common.{◌≡◌, ℕ, zero, suc, true, List, [], ◌∷◌, Option, Some, None, sym, subst}
 use Rattle.event_files.specs.declared.plan.PlanLine.{PlanLine}
 use Rattle.event_files.specs.Files.{AreRows, IsFile, Passed, Row, Said, all_said}
-use Rattle.event_files.specs.Plans.{IsPlanLine, may_be_planned, plan_line_text}
-use Rattle.replay_laws.specs.of_seats.Held.{AreOutside, is_outside}
-
-from_outside : (e : Event) → may_be_planned e ≡ is_outside e
-from_outside (Claim w) = refl
-from_outside (Commit j) = refl
-from_outside (Deliver m) = refl
-from_outside e = refl
+use Rattle.event_files.specs.Plans.{IsPlanLine, is_outside, plan_line_text}
+use Rattle.replay_laws.specs.of_seats.Held.{AreOutside}
 
 some_same : {A : Type 0} (x y : A) → ◌≡◌ {A = Option A} (Some x) (Some y) → x ≡ y
 some_same x y e = cc
@@ -23,7 +15,7 @@ rows_outside : (rows : List (Row PlanLine)) → AreRows IsPlanLine rows → AreO
 rows_outside [] h k line at = absurd (none_some line at)
 rows_outside (Passed bytes ∷ rows) h k line at = rows_outside rows h.1 k line at
 rows_outside (Said p ∷ rows) h zero line at =
-    subst (λ (l : PlanLine). is_outside l.event ≡ true) (some_same p line at) (sym (from_outside p.event) ∙ h.0.2)
+    subst (λ (l : PlanLine). is_outside l.event ≡ true) (some_same p line at) h.0.2
 rows_outside (Said p ∷ rows) h (suc k) line at = rows_outside rows h.1 k line at
 
 pub plan_outside : (bytes : List ℕ) (lines : List PlanLine) → IsFile IsPlanLine plan_line_text bytes lines → AreOutside lines

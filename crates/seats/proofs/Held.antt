@@ -30,7 +30,8 @@ use Rattle.job_laws.specs.of_protocol_core.Steps.{IsShown, refusal_in}
 use Rattle.job_laws.specs.of_protocol_laws.Shown.{IsAsShown, IsHidden}
 use Rattle.meaning.specs.Syntax.{Script}
 use Rattle.seats.specs.Counted.{ClaimsGaveJobs}
-use Rattle.seats.specs.Held.{AreHeld, AreOutside, IsStillOut, StayHeld, is_outside}
+use Rattle.seats.specs.Held.{AreHeld, AreOutside, IsStillOut, StayHeld}
+use Rattle.event_files.specs.Plans.{is_outside}
 use Rattle.seats.specs.Outside.{Passes}
 use Rattle.seats.specs.Owed.{has_job}
 use Rattle.seats.specs.Ruled.{HandsIn, IsNamed, IsRuled}

@@ -1,8 +1,9 @@
 -- Jobs that are out as they were given out, and logs in which each was handed in once.
 use Rattle.std.specs.Prelude.{◌≡◌, ◌≤◌, ℕ, Bool, true, false, List, [], ◌∷◌, ◌++◌, length, Option, Some, None, slice_get}
+use Rattle.event_files.specs.Plans.{is_outside}
 use Rattle.event_files.specs.declared.plan.PlanLine.{PlanLine}
 use Rattle.job_tickets.specs.declared.law.Claim.{Claim as Ticket}
-use Rattle.event_log.specs.Entries.{Entry, Event, Claim, Commit, Deliver}
+use Rattle.event_log.specs.Entries.{Entry}
 use Rattle.event_log.specs.Events.{claims}
 use Rattle.log_entries.specs.declared.refusal.Refusal.{Refusal}
 use Rattle.run_paths.specs.Handing.{HandsInOnce, has_commit}
@@ -12,14 +13,7 @@ use Rattle.seats.specs.Owed.{has_job}
 use Rattle.seats.specs.Turns.{Did, GaveJob, IsOver, MustWait, Told, TurnState, WasRefused}
 use Rattle.seats.specs.declared.outs.JobOut.{JobOut}
 
--- claims, commits and deliveries are the run's own
-abbrev pub is_outside : Event → Bool
-is_outside (Claim w) = false
-is_outside (Commit j) = false
-is_outside (Deliver m) = false
-is_outside _ = true
-
--- so is none of a plan's lines
+-- each of a plan's lines is an event from outside
 abbrev pub AreOutside : List PlanLine → Type 0
 AreOutside plan = (k : ℕ) (line : PlanLine) → slice_get plan k ≡ Some line → is_outside line.event ≡ true
 

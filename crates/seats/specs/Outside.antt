@@ -7,7 +7,7 @@ use Rattle.log_entries.specs.declared.refusal.Refusal.{Refusal}
 use Rattle.log_entries.specs.declared.refusal.Refusal.TheVariants as refusals
 use Rattle.segment.specs.Jobs.{Done}
 use Rattle.seats.specs.Held.{IsStillOut}
-pub use Rattle.seats.specs.Held.{is_outside}
+pub use Rattle.event_files.specs.Plans.{is_outside}
 use Rattle.seats.specs.Ruled.{HandsIn, IsRuled}
 use Rattle.seats.specs.Turns.{TurnState}
 

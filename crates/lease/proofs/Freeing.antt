@@ -51,7 +51,7 @@ or_false_right false b e = e
 
 empty : {X : Type 0} (xs : List X) → nat_lt 0 (length xs) ≡ false → xs ≡ []
 empty [] e = refl
-empty (x ∷ xs) e = absurd (true_false e)
+empty (x ∷ xs) e = absurd (grind (arith, nat_tests, e))
 
 either_same : (b : Bool) (x y : NodeContext) → x ≡ y → (if b then x else y) ≡ y
 either_same true x y e = e

@@ -20,9 +20,8 @@ use segment::{Compiled, Job, ScriptName};
 use shared_log::OpenedLog;
 use std::alloc::{AllocError, Global};
 use std::marker::Brand;
-use std::rt::Clock;
-use std::sync::Wait;
 use std::sync::ledger::Ledger;
+use std::sync::{Condvar, Wait};
 use std::thread;
 use std::thread::Threads;
 
@@ -39,7 +38,7 @@ fn sit<
     D: Ledger + Send + Sync,
     M: Ledger + Send + Sync,
     K: Gate + Sync,
-    R: Threads + Wait + Clock + Sync,
+    R: Threads + Wait + Sync,
 >(
     rt: &R,
     alloc: Global,
@@ -50,12 +49,13 @@ fn sit<
 ) -> Result<Vec<Seat<P, E, G, C, J, V, H, D, M>>, AllocError>
     requires { script_of script.now ≡ S.script }
 {
+    let bell = Condvar::new();
     thread::map_vec(
         rt,
         seats,
         &|seat| -> Seat<P, E, G, C, J, V, H, D, M>
             requires { script_of script.now ≡ S.script }
-        { work(rt, alloc, shared, seat, script, gate) },
+        { work(rt, alloc, shared, &bell, seat, script, gate) },
     )
 }
 
@@ -72,7 +72,7 @@ fn run_shared<
     D: Ledger + Send + Sync,
     M: Ledger + Send + Sync,
     K: Gate + Sync,
-    R: Threads + Wait + Clock + Sync,
+    R: Threads + Wait + Sync,
 >(
     rt: &R,
     alloc: Global,
@@ -131,11 +131,7 @@ fn run_shared<
 /// Runs a script on `n` threads, 1 to 8, beside a plan: each has a seat, takes its turns and runs the jobs that it is given side by side with
 /// the others. What the books come to is said by whoever has the seats: see `Shared::close`. Where a thread can't be made, another takes its seat after
 /// its own. On want of memory for the seats or the threads the run is dropped.
-pub fn run_on_threads<
-    S: ScriptName + Send + Sync,
-    K: Gate + Sync,
-    R: Threads + Wait + Clock + Sync,
->(
+pub fn run_on_threads<S: ScriptName + Send + Sync, K: Gate + Sync, R: Threads + Wait + Sync>(
     rt: &R,
     alloc: Global,
     board: Board<S>,

@@ -16,13 +16,11 @@ use run_paths::Reply;
 use seat_books::Seat;
 use segment::{Compiled, NoMemory, ScriptName};
 use std::alloc::Global;
-use std::rt::Clock;
-use std::sync::Wait;
 use std::sync::ledger::Ledger;
-use std::thread;
+use std::sync::{Condvar, Wait};
 use std::time::Duration;
 
-/// How many microseconds a thread sleeps before it asks again, where it must wait for another's job.
+/// How many microseconds a thread that must wait for another's job sleeps at most before it asks again.
 const PAUSE: u64 = 100;
 
 /// Shows the log, if that is asked for.
@@ -114,8 +112,8 @@ fn do_job<
 }
 
 /// One thread's loop, over the turns of its seat: given a job, it tells the gate, runs the job outside the lock and commits it. Where it must
-/// wait for another's job it sleeps for a tenth of a millisecond, and asks again. It ends with the run, which it gives up where a job finds no
-/// memory.
+/// wait for another's job it sleeps until another thread is given a job, whose place at the turns it takes, or for a tenth of a millisecond, and asks
+/// again. It ends with the run, which it gives up where a job finds no memory.
 pub fn work<
     S: ScriptName,
     P: RunName,
@@ -128,11 +126,12 @@ pub fn work<
     D: Ledger,
     M: Ledger,
     K: Gate,
-    R: Wait + Clock,
+    R: Wait,
 >(
     rt: &R,
     alloc: Global,
     shared: &Shared<S, P, E, G, C, J, V, H, D, M>,
+    bell: &Condvar,
     seat: Seat<P, E, G, C, J, V, H, D, M>,
     script: &Compiled,
     gate: &K,
@@ -143,12 +142,18 @@ pub fn work<
     let mut seat = seat;
     let mut frames = SeenFrames::new(alloc, shared.seen(rt));
     for _ in rt.forever() {
+        // Whoever is given a job from here on is heard.
+        let heard = bell.notifications();
         match shared.turn(rt, alloc, &mut seat) {
-            Turn::Job(job) => do_job(rt, alloc, shared, &mut seat, script, &mut frames, gate, job),
+            Turn::Job(job) => {
+                bell.notify_one();
+                do_job(rt, alloc, shared, &mut seat, script, &mut frames, gate, job);
+            }
             Turn::Did | Turn::Refused(_) => {}
-            Turn::Again => thread::sleep(rt, Duration::from_micros(PAUSE)),
+            Turn::Again => bell.sleep(rt, heard, Duration::from_micros(PAUSE)),
             Turn::End => break,
         }
     }
+    bell.notify_all();
     seat
 }

@@ -1,6 +1,6 @@
 -- Whose turn it is in a run on threads, beside a plan: the least message that was never delivered; else the plan's next line, if so many commits
 -- were accepted; else the least ready worker claims; else, where a job is out, none; else the plan's next line; else the run is at its end.
-use Rattle.std.specs.Prelude.{◌≡◌, ◌⊎◌, ◌||◌, ℕ, ◌+◌, ◌==◌, Bool, is_some, not, nat_lt, if◌then◌else◌, List, [], ◌∷◌, ◌++◌, length, map, slice_get, Option, Some, None}
+use Rattle.std.specs.Prelude.{◌≡◌, ◌⊎◌, ◌||◌, ℕ, ◌+◌, ◌==◌, Bool, is_some, not, nat_lt, true, false, if◌then◌else◌, List, [], ◌∷◌, ◌++◌, length, map, slice_get, Option, Some, None}
 use Rattle.std.specs.List.{filter}
 use Rattle.event_log.specs.Entries.{Entry, Event, Claim, Commit, Deliver}
 use Rattle.event_log.specs.Books.{Totals, totals_of}
@@ -62,6 +62,13 @@ choice t =
     (or_claim (next t.run.whole (busy t.out))
     (or_wait (next t.run.whole [])
     (or_plan (slice_get t.plan t.taken) Ends))))
+
+-- the turn applies an event
+abbrev pub is_event : Choice → Bool
+is_event (Does e) = true
+is_event (Plans e) = true
+is_event Waits = false
+is_event Ends = false
 
 -- whether the run is at its end: it is given up, or nothing is left to do, nor of the plan, and no job is out
 abbrev pub is_at_end : TurnState → Bool

@@ -1,7 +1,7 @@
 // What a turn is to do.
 
 ghost use Rattle.std.specs.Prelude.{◌≡◌};
-ghost use Rattle.seats.specs.Turns.{Ends, due, or_claim, or_plan, or_wait};
+ghost use Rattle.seats.specs.Turns.{Ends, due, is_event, or_claim, or_plan, or_wait};
 ghost use Rattle.seats.specs.Views.{choice_of};
 
 use event_files::PlanLine;
@@ -18,6 +18,16 @@ pub enum Choice {
     Waits,
     /// Nothing any more.
     Ends,
+}
+
+/// Whether the turn applies an event.
+pub fn is_event(choice: &Choice) -> bool
+    ensures { result ≡ is_event (choice_of choice.now) }
+{
+    match choice {
+        Choice::Does(_) | Choice::Plans(_) => true,
+        Choice::Waits | Choice::Ends => false,
+    }
 }
 
 /// The line, if so many commits were accepted.

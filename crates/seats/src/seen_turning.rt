@@ -11,7 +11,7 @@ ghost use Rattle.seats.specs.Counted.{AddsFrom, counted};
 ghost use Rattle.seats.specs.Ends.{IsOverBeside};
 ghost use Rattle.seats.specs.Held.{given_behind};
 ghost use Rattle.seats.specs.Seated.{StaysFrom};
-ghost use Rattle.seats.specs.Turns.{TurnGivesOwn, Turned, is_at_end, or_first, turn_counted};
+ghost use Rattle.seats.specs.Turns.{TurnGivesOwn, Turned, choice, is_at_end, is_event, or_first, turn_counted};
 ghost use Rattle.seats.specs.Views.{told_of};
 
 use crate::run_name::RunName;
@@ -166,6 +166,13 @@ impl<S: ScriptName, P: RunName> SeenTurning<S, P> {
         let told = self.turning.turn(alloc, seat);
         follow(&self.turning, &mut self.log);
         give(rt, &self.log, &mut self.tickets, told)
+    }
+
+    /// Whether a turn would apply an event now: see `Turning::has_turn`.
+    pub fn has_turn(&self, alloc: Global) -> bool
+        ensures { result ≡ true → is_event (choice self.now) ≡ true }
+    {
+        self.turning.has_turn(alloc)
     }
 
     /// Gives the run up for want of memory, unless it was given up before.

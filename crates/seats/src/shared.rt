@@ -357,6 +357,15 @@ impl<
         self.locked.lock(rt).turn(rt, alloc, seat)
     }
 
+    /// Whether there is something to do for another seat while this one runs a job: a turn would apply an event (`Turning::has_turn`, under the lock).
+    /// Where there is no other seat there is nothing.
+    pub fn has_turn<R: Wait>(&self, rt: &R, alloc: Global) -> bool {
+        if self.seats < 2 {
+            return false;
+        }
+        self.locked.lock(rt).turning.has_turn(alloc)
+    }
+
     /// How much of the log all seats may have seen, for the frames that one keeps.
     pub fn seen<R: Wait>(&self, rt: &R) -> LogPrefix<P> {
         self.locked.lock(rt).turning.seen()

@@ -13,10 +13,10 @@ ghost use Rattle.seats.specs.Ends.{EndsFor, HasEnded, IsOverBeside, log_at, size
 ghost use Rattle.seats.specs.Held.{StayHeld};
 ghost use Rattle.seats.specs.Outside.{MayApply, Passes};
 ghost use Rattle.seats.specs.Seated.{AreFrom, StaysFrom};
-ghost use Rattle.seats.specs.Turns.{Does, Follows, Plans, Takes, TurnGivesOwn, Turned, choice, due, is_at_end, or_first, past_line, turn_counted};
+ghost use Rattle.seats.specs.Turns.{Does, Follows, Plans, Takes, TurnGivesOwn, Turned, choice, due, is_at_end, is_event, or_first, past_line, turn_counted};
 ghost use Rattle.seats.specs.Views.{choice_of, told_of};
 
-use crate::choice::{Choice, behind_plan, due};
+use crate::choice::{Choice, behind_plan, due, is_event};
 use crate::end::Ended;
 use crate::outs::{JobOut, busy, first_refusal, keep_or_give_up};
 use crate::run_name::RunName;
@@ -328,6 +328,19 @@ impl<S: ScriptName, P: RunName> Turning<S, P> {
             Choice::Waits => Turn::Again,
             Choice::Ends => Turn::End,
         }
+    }
+
+    /// Whether a turn would apply an event now. It is no where the run was given up, or where there is no memory to find out.
+    pub fn has_turn(&self, alloc: Global) -> bool
+        ensures { result ≡ true → is_event (choice self.now) ≡ true }
+    {
+        if self.given_up.is_some() {
+            return false;
+        }
+        let Ok(choice) = self.choose(alloc) else {
+            return false;
+        };
+        is_event(&choice)
     }
 
     /// Gives the run up for want of memory, unless it was given up before.

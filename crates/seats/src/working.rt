@@ -20,8 +20,8 @@ use std::sync::ledger::Ledger;
 use std::sync::{Condvar, Wait};
 use std::time::Duration;
 
-/// How many microseconds a thread that must wait for another's job sleeps at most before it asks again.
-const PAUSE: u64 = 100;
+/// How many milliseconds a thread that must wait for another's job sleeps at most before it asks again.
+const PAUSE: u64 = 10;
 
 /// Shows the log, if that is asked for.
 fn show<
@@ -112,8 +112,9 @@ fn do_job<
 }
 
 /// One thread's loop, over the turns of its seat: given a job, it tells the gate, runs the job outside the lock and commits it. Where it must
-/// wait for another's job it sleeps until another thread is given a job, whose place at the turns it takes, or for a tenth of a millisecond, and asks
-/// again. It ends with the run, which it gives up where a job finds no memory.
+/// wait for another's job it sleeps, until a thread that is given a job leaves turns to be taken, or for a hundredth of a second, and asks again. So a
+/// thread that does one short job after the other, with nothing beside them, is left alone with them, and with the frames that it keeps. The loop ends
+/// with the run, which it gives up where a job finds no memory.
 pub fn work<
     S: ScriptName,
     P: RunName,
@@ -142,15 +143,17 @@ pub fn work<
     let mut seat = seat;
     let mut frames = SeenFrames::new(alloc, shared.seen(rt));
     for _ in rt.forever() {
-        // Whoever is given a job from here on is heard.
+        // Whoever rings from here on is heard.
         let heard = bell.notifications();
         match shared.turn(rt, alloc, &mut seat) {
             Turn::Job(job) => {
-                bell.notify_one();
+                if shared.has_turn(rt, alloc) {
+                    bell.notify_one();
+                }
                 do_job(rt, alloc, shared, &mut seat, script, &mut frames, gate, job);
             }
             Turn::Did | Turn::Refused(_) => {}
-            Turn::Again => bell.sleep(rt, heard, Duration::from_micros(PAUSE)),
+            Turn::Again => bell.sleep(rt, heard, Duration::from_millis(PAUSE)),
             Turn::End => break,
         }
     }

@@ -206,13 +206,13 @@ bracket_hint front =
     else if nat_eq (bracket_kind front) 3 && not (is_value_wanted front) then Some Index
     else Some EmptyList
 
--- of a :, with the text before it and the last byte of that
+-- of a :, with the text before it and the last byte of that; behind the = of a variable it is no type's
 abbrev pub colon_hint : List ℕ → ℕ → Option Hint
 colon_hint front before =
     if is_within front 91 93 then None
     else if is_within front 40 41 then Some NamedArgument
     else if nat_eq before 41 && has_word front (codes "fn") then Some NoResult
-    else if is_variable_named front then Some VariableType
+    else if is_variable_named front then (if is_within front 61 0 then None else Some VariableType)
     else Some Colon
 
 -- of a {, with the text before it and the last byte of that

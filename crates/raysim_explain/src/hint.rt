@@ -533,6 +533,10 @@ fn colon_hint(front: &[u8], before: u8) -> Option<Hint>
         return Some(Hint::NoResult);
     }
     if is_variable_named(front) {
+        // Behind the = of a variable it is no type's.
+        if is_within(front, b'=', 0) {
+            return None;
+        }
         return Some(Hint::VariableType);
     }
     Some(Hint::Colon)

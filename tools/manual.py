@@ -15,11 +15,13 @@ TOP = os.path.dirname(os.path.dirname(os.path.abspath(__file__)))
 MANUAL, BASH, ZSH = "docs/raysim.1", "docs/completions/raysim.bash", "docs/completions/_raysim"
 # what an option's value is completed to, by the name that help gives it
 FILES, FOLDERS = ("FILE",), ("DIR",)
+# the words of a command that are files
+FILE_WORDS = ("script", "events")
 # the values that there are of some options, each of which its help names, and those of which several may stand, with commas between them
 VALUES = {"--to": ("dask", "ray"), "--of": ("kill", "notice", "kill-node", "lose", "evict")}
 LISTED = ("--of",)
 STATUS = [
-    ("0", "A script is in order; main ended with a value; no fault was found that main doesn't survive."),
+    ("0", "A script is in order; main ended with a value; no fault was found that main doesn't survive; what was asked for is written, by explain, export, migrate and state."),
     ("1", "Main ended with a trap; or something was refused, with --so-far too; or a file beside the report could not be written; or a word of the command line is at fault; or help or the version was asked for."),
     ("2", "Main ended with a fault, or is open; a fault was found that main doesn't survive."),
 ]
@@ -39,6 +41,7 @@ class Command:
         self.about = said.split("\n", 1)[0]
         self.usage = re.search(r"^Usage: (.*)$", said, re.M)[1]
         self.words = rows(said, "Arguments")
+        self.files = [number for number, (form, _) in enumerate(self.words, 1) if form.strip("<>[]") in FILE_WORDS]
         self.options = [Option(*row) for row in rows(said, "Options")]
 
 
@@ -103,6 +106,10 @@ def manual(whole, commands):
         for option in command.options:
             if option.long != "--help":
                 out += [".TP", form_in_roff(option.form), roff(option.does)]
+    out += [".SH OPTIONS"]
+    for option in whole.options:
+        of = "of raysim or of a command; raysim help COMMAND does so too" if option.long == "--help" else "without a command"
+        out += [".TP", form_in_roff(option.form), f"{roff(option.does)}, {of}."]
     out += [".SH EXIT STATUS"]
     for status, meant in STATUS:
         out += [".TP", f".B {status}", roff(meant)]
@@ -117,7 +124,7 @@ def manual(whole, commands):
 
 def bash(whole, commands):
     def cases(of):
-        return "\n".join(f"        {command.name}) words='{' '.join(of(command))}' ;;" for command in commands)
+        return "\n".join(f"        {command.name}) words='{' '.join(of(command))}'{'' if command.files else ' files='} ;;" for command in commands)
 
     values = sorted({it.long for command in commands for it in command.options if it.value})
     files = sorted({it.long for command in commands for it in command.options if it.value in FILES})
@@ -125,9 +132,9 @@ def bash(whole, commands):
     others = [it for it in values if it not in files and it not in folders and it not in VALUES]
     asked = []
     if files:
-        asked.append(f"        {'|'.join(files)}) COMPREPLY=($(compgen -f -- \"$word\")); return ;;")
+        asked.append(f"        {'|'.join(files)}) mapfile -t COMPREPLY < <(compgen -f -- \"$word\"); return ;;")
     if folders:
-        asked.append(f"        {'|'.join(folders)}) COMPREPLY=($(compgen -d -- \"$word\")); return ;;")
+        asked.append(f"        {'|'.join(folders)}) mapfile -t COMPREPLY < <(compgen -d -- \"$word\"); return ;;")
     for it in values:
         if it in LISTED:
             asked.append(f"        {it})\n            compopt -o nospace\n            before=${{word%\"${{word##*,}}\"}}")
@@ -136,10 +143,11 @@ def bash(whole, commands):
             asked.append(f"        {it}) COMPREPLY=($(compgen -W '{' '.join(VALUES[it])}' -- \"$word\")); return ;;")
     if others:
         asked.append(f"        {'|'.join(others)}) return ;;")
-    names = " ".join([*(it.name for it in commands), *(it.long for it in whole.options)])
+    of_commands = " ".join(it.name for it in commands)
+    names = " ".join([of_commands, "help", *(it.long for it in whole.options)])
     return f"""# Completions of raysim for bash: source this file. Made by tools/manual.py from the program's help.
 _raysim() {{
-    local word=${{COMP_WORDS[COMP_CWORD]}} before=${{COMP_WORDS[COMP_CWORD - 1]}} words
+    local word=${{COMP_WORDS[COMP_CWORD]}} before=${{COMP_WORDS[COMP_CWORD - 1]}} words files=1
     if [ "$COMP_CWORD" -eq 1 ]; then
         COMPREPLY=($(compgen -W '{names}' -- "$word"))
         return
@@ -149,11 +157,18 @@ _raysim() {{
     esac
     case ${{COMP_WORDS[1]}} in
 {cases(lambda command: [it.long for it in command.options])}
+        help) words='{of_commands}' files= ;;
         *) return ;;
     esac
     case $word in
         -*) COMPREPLY=($(compgen -W "$words" -- "$word")) ;;
-        *) COMPREPLY=($(compgen -f -- "$word")) ;;
+        *)
+            if [ -n "$files" ]; then
+                mapfile -t COMPREPLY < <(compgen -f -- "$word")
+            elif [ "${{COMP_WORDS[1]}}" = help ]; then
+                COMPREPLY=($(compgen -W "$words" -- "$word"))
+            fi
+            ;;
     esac
 }}
 complete -o filenames -F _raysim raysim
@@ -176,10 +191,12 @@ def zsh(whole, commands):
     lines = ["#compdef raysim", "# Completions of raysim for zsh: put this file into a folder of fpath. Made by tools/manual.py from the program's help.", "_raysim() {",
              "    local -a commands", "    commands=("]
     lines += [f"        '{command.name}:{quoted(command.about)}'" for command in commands]
-    lines += ["    )", "    if (( CURRENT == 2 )); then", "        _describe command commands", "        return", "    fi", "    local command=$words[2]",
-              "    shift words", "    (( CURRENT-- ))", "    case $command in"]
+    alone = " ".join(it.long for it in whole.options)
+    lines += ["        'help:Print help of a command'", "    )", "    if (( CURRENT == 2 )); then", "        _describe command commands",
+              f"        [[ $PREFIX = -* ]] && compadd -- {alone}", "        return", "    fi", "    local command=$words[2]", "    shift words", "    (( CURRENT-- ))",
+              "    case $command in", "    help)", "        (( CURRENT == 2 )) && _describe command commands", "        ;;"]
     for command in commands:
-        places = [f"'{number}:{quoted(re.sub('[<>]', '', form.strip('[]')))}:_files'" for number, (form, _) in enumerate(command.words, 1)]
+        places = [f"'{number}:{form.strip('<>[]')}:{'_files' if number in command.files else ' '}'" for number, (form, _) in enumerate(command.words, 1)]
         said = " \\\n            ".join(["_arguments", *[option(it) for it in command.options], *places])
         lines.append(f"    {command.name})\n        {said}\n        ;;")
     return "\n".join([*lines, "    esac", "}", '_raysim "$@"']) + "\n"

@@ -280,6 +280,7 @@ SCRIPTS = [
      ["expected one of: let set if for print return }", "found: x"]),
     (3, "# prints 1 (or 2\nfn main() { return 1; }\n", "{", 1, ["expected: ->", "found: {"]),
     (3, "fn main() -> int { let x: int = 1; return x; }\n", ": int =", 1, ["expected one of: = ,", "found: :"]),
+    (3, "fn main() -> int { let x = 1: 3; return x; }\n", ": 3", 1, [f"expected one of: {OPERATORS} ;", "found: :"]),
     (3, "fn main() -> int { let a = 1; set (a, b) = f(); return 1; }\n", "(a, b", 1, ["expected: NAME", "found: ("]),
     (3, "fn main() -> int { let a = 1; set a, b = f(); return 1; }\n", ", b", 1, ["expected: =", "found: ,"]),
     (3, "fn main() -> int { if 0 { return 1; } elif 1 { return 2; } return 3; }\n", "elif", 4,
@@ -982,6 +983,7 @@ def try_names(trial):
     trial.run("explain 37", 0, report=limit + b"unless --so-far asks for the one up to there; a replay goes on behind it.\nExample: 1,100 remote calls that are all open\n")
     trial.run("explain nothing_like_it", 1, "nothing_like_it is the name of no refusal, fault or trap\n")
     trial.run("explain 5", 1, "nothing is refused 5\n")
+    trial.run("explain 256", 1, "nothing is refused 256\n")
 
 
 def unable(trial):

@@ -1,13 +1,13 @@
 # Completions of raysim for bash: source this file. Made by tools/manual.py from the program's help.
 _raysim() {
-    local word=${COMP_WORDS[COMP_CWORD]} before=${COMP_WORDS[COMP_CWORD - 1]} words
+    local word=${COMP_WORDS[COMP_CWORD]} before=${COMP_WORDS[COMP_CWORD - 1]} words files=1
     if [ "$COMP_CWORD" -eq 1 ]; then
-        COMPREPLY=($(compgen -W 'check serial sim run log why faults migrate explain export state --help --version' -- "$word"))
+        COMPREPLY=($(compgen -W 'check serial sim run log why faults migrate explain export state help --help --version' -- "$word"))
         return
     fi
     case $before in
-        --history|--lineage|--page|--plan|--timeline) COMPREPLY=($(compgen -f -- "$word")); return ;;
-        --out) COMPREPLY=($(compgen -d -- "$word")); return ;;
+        --history|--lineage|--page|--plan|--timeline) mapfile -t COMPREPLY < <(compgen -f -- "$word"); return ;;
+        --out) mapfile -t COMPREPLY < <(compgen -d -- "$word"); return ;;
         --of)
             compopt -o nospace
             before=${word%"${word##*,}"}
@@ -26,14 +26,21 @@ _raysim() {
         why) words='--explain --nodes --slots --full --help' ;;
         faults) words='--explain --nodes --slots --of --most --out --progress --help' ;;
         migrate) words='--explain --nodes --slots --help' ;;
-        explain) words='--help' ;;
+        explain) words='--help' files= ;;
         export) words='--explain --to --help' ;;
         state) words='--explain --nodes --slots --at --help' ;;
+        help) words='check serial sim run log why faults migrate explain export state' files= ;;
         *) return ;;
     esac
     case $word in
         -*) COMPREPLY=($(compgen -W "$words" -- "$word")) ;;
-        *) COMPREPLY=($(compgen -f -- "$word")) ;;
+        *)
+            if [ -n "$files" ]; then
+                mapfile -t COMPREPLY < <(compgen -f -- "$word")
+            elif [ "${COMP_WORDS[1]}" = help ]; then
+                COMPREPLY=($(compgen -W "$words" -- "$word"))
+            fi
+            ;;
     esac
 }
 complete -o filenames -F _raysim raysim

@@ -4,6 +4,7 @@ use crate::reasons::{Known, tell_reason};
 use raysim_commands::{CommandRefusal, Failure, exit_status};
 use raysim_explain::RefusalCause;
 use refusal_reasons::{Ending, ListKind, NearNames, refusal_named};
+use std::fmt::Display;
 use std::io;
 use std::io::ErrorKind;
 use std::process::ExitCode;
@@ -204,6 +205,9 @@ pub fn explain<R: Print + Eprint + AllocGlobal>(rt: &R, what: &str) -> ExitCode 
     if let Ok(number) = what.parse::<u8>() {
         return explain_number(rt, number);
     }
+    if is_digits(what) {
+        return no_refusal(rt, what);
+    }
     let written = match (
         refusal_named(what.as_bytes()),
         Ending::named(what.as_bytes()),
@@ -219,10 +223,20 @@ pub fn explain<R: Print + Eprint + AllocGlobal>(rt: &R, what: &str) -> ExitCode 
     is_out(rt, written)
 }
 
+/// Whether it is a number, of any length.
+fn is_digits(what: &str) -> bool {
+    !what.is_empty() && what.as_bytes().iter().all(|b| b.is_ascii_digit())
+}
+
+/// Tells that this number is no refusal's.
+fn no_refusal<R: Eprint, N: Display>(rt: &R, number: N) -> ExitCode {
+    let _ = eprintln!(rt; "nothing is refused {number}");
+    ExitCode::FAILURE
+}
+
 fn explain_number<R: Print + Eprint + AllocGlobal>(rt: &R, number: u8) -> ExitCode {
     let Some(reason) = RefusalCause::of(number) else {
-        let _ = eprintln!(rt; "nothing is refused {number}");
-        return ExitCode::FAILURE;
+        return no_refusal(rt, number);
     };
     let written = print_reason(rt, reason);
     is_out(rt, written)

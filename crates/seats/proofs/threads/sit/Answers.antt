@@ -7,7 +7,9 @@ use denote.Struct.Tuple.{type_at}
 use denote.Param.{param}
 use denote.Param.Send.{AllSync, recorded_sync, struct_sync, shr_sync}
 use Rattle.std.specs.contracts.alloc.Global as Global
+use Rattle.std.specs.contracts.sync.Condvar as Condvar
 use Rattle.std.proofs.alloc.Global.TheSendSync as heap
+use Rattle.std.proofs.sync.Condvar.TheSendSync as condvar
 use Rattle.frames.specs.contracts.compiled.Compiled as Compiled
 use Rattle.seats.specs.contracts.shared.Shared as Shared
 use Rattle.seats.proofs.Crosses.{compiled_sync, shared_sync}
@@ -28,9 +30,10 @@ map_vec-requires-sync-F g c κs within =
     (shr_ref_field (record { mir = named 7; lft = κs.1.1.1.1.1.1.1.0 }) R tt).row
     ∷ (shr_ref_field (record { mir = named 8; lft = κs.1.1.1.1.1.1.1.1.0 }) Global.the_row tt).row
     ∷ (shr_ref_field (record { mir = named 9; lft = κs.1.1.1.1.1.1.1.1.1.0 }) shared tt).row
-    ∷ (shr_ref_field (record { mir = named 10; lft = κs.1.1.1.1.1.1.1.1.1.1.0 }) Compiled.the_row tt).row
-    ∷ (shr_ref_field (record { mir = named 11; lft = κs.1.1.1.1.1.1.1.1.1.1.1.0 }) K tt).row
+    ∷ (shr_ref_field (record { mir = named 10; lft = κs.1.1.1.1.1.1.1.1.1.1.0 }) Condvar.the_row tt).row
+    ∷ (shr_ref_field (record { mir = named 11; lft = κs.1.1.1.1.1.1.1.1.1.1.1.0 }) Compiled.the_row tt).row
+    ∷ (shr_ref_field (record { mir = named 12; lft = κs.1.1.1.1.1.1.1.1.1.1.1.1.0 }) K tt).row
     ∷ [] in
     let all : AllSync (shape (type_at [] lent)).fields =
-    (shr_sync _ _ _ b.sync-R, (shr_sync _ _ _ heap.the_sync, (shr_sync _ _ _ y, (shr_sync _ _ _ compiled_sync, (shr_sync _ _ _ b.sync-K, tt))))) in
+    (shr_sync _ _ _ b.sync-R, (shr_sync _ _ _ heap.the_sync, (shr_sync _ _ _ y, (shr_sync _ _ _ condvar.the_sync, (shr_sync _ _ _ compiled_sync, (shr_sync _ _ _ b.sync-K, tt)))))) in
     record { shared = (recorded_sync _ _ _ (type_at [] lent).to_one (struct_sync (shape (type_at [] lent)) all)).shared }

@@ -229,7 +229,7 @@ fn is_digits(what: &str) -> bool {
 }
 
 /// Tells that this number is no refusal's.
-fn no_refusal<R: Eprint, N: Display>(rt: &R, number: N) -> ExitCode {
+fn no_refusal<R: Eprint, N: Display + Drop>(rt: &R, number: N) -> ExitCode {
     let _ = eprintln!(rt; "nothing is refused {number}");
     ExitCode::FAILURE
 }

@@ -1,6 +1,6 @@
 // The first of some lists of events, and how many there are.
 
-ghost use Rattle.std.specs.Prelude.{◌≡◌, ◌∷◌, [], OnOk};
+ghost use Rattle.std.specs.Prelude.{◌≡◌, ◌≤◌, ◌+◌, ◌^◌, ◌∷◌, [], IfOk, OnOk, OnErr};
 ghost use Rattle.fault_lists.specs.Firsts.{Adds};
 
 use faulted_history::FaultList;
@@ -17,6 +17,17 @@ pub struct FirstLists {
     pub most: usize,
     /// How many there are.
     pub count: usize,
+}
+
+/// One more than that. There is no number of lists past 2^64 - 1.
+fn next_count(alloc: Global, count: usize) -> Result<usize, AllocError>
+    ensures number { IfOk result (λ n. n ≡ count + 1) }
+    ensures refused { OnErr result (2 ^ 64 ≤ count + 1) }
+{
+    match count.checked_add(1) {
+        Some(next) => Ok(next),
+        None => Err(refused_growth(alloc)),
+    }
 }
 
 impl FirstLists {
@@ -42,9 +53,7 @@ impl FirstLists {
     ) -> Result<(), AllocError>
         ensures { OnOk result (Adds self.old (record { place = place; fault = fault; notice = notice } ∷ []) self.new) }
     {
-        let Some(count) = self.count.checked_add(1) else {
-            return Err(refused_growth(alloc));
-        };
+        let count = next_count(alloc, self.count)?;
         if self.first.len() < self.most {
             self.first.push(FaultList {
                 place,

@@ -1,6 +1,6 @@
 // The objects that a birth makes, as values of code.
 
-ghost use Rattle.std.specs.Prelude.{◌≡◌, ◌++◌, IfOk, OnOk};
+ghost use Rattle.std.specs.Prelude.{◌≡◌, ◌≤◌, ◌+◌, ◌^◌, ◌++◌, IfOk, OnOk, OnErr};
 ghost use Rattle.meaning.specs.Values.{others_of};
 ghost use Rattle.meaning.specs.Births.{is_made_by};
 ghost use Rattle.meaning.specs.Runs.{ids_from, past};
@@ -35,7 +35,8 @@ pub fn is_made_by(object: ObjectId, first: ObjectId, birth: &Birth) -> bool
 
 /// The object so many behind that one. None has a serial past 2^64 - 1, where no task comes.
 fn object_behind(alloc: Global, object: ObjectId, count: u64) -> Result<ObjectId, AllocError>
-    ensures { IfOk result (λ o. o ≡ past object count) }
+    ensures object { IfOk result (λ o. o ≡ past object count) }
+    ensures refused { OnErr result (2 ^ 64 ≤ object.serial + count) }
 {
     let owner = object.owner;
     match object.serial.checked_add(count) {

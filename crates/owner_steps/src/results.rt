@@ -1,6 +1,6 @@
 // What is done with each object of a task.
 
-ghost use Rattle.std.specs.Prelude.{◌≡◌, IfOk, OnOk};
+ghost use Rattle.std.specs.Prelude.{◌≡◌, ◌≤◌, ◌+◌, ◌^◌, IfOk, OnOk, OnErr};
 ghost use Rattle.meaning.specs.Runs.{past};
 ghost use Rattle.protocol.specs.Asking.{answers_faulted, resolves_used};
 ghost use Rattle.protocol.specs.Ends.{resolves_open};
@@ -29,7 +29,8 @@ pub fn own_id(here: &WorkerContext, serial: u64) -> ObjectId
 
 /// The id so many behind that one. There is none past serial 2^64 - 1, where no object comes: an owner has at most 2^63.
 pub fn id_behind(alloc: Global, object: ObjectId, count: u64) -> Result<ObjectId, AllocError>
-    ensures { IfOk result (λ o. o ≡ past object count) }
+    ensures object { IfOk result (λ o. o ≡ past object count) }
+    ensures refused { OnErr result (2 ^ 64 ≤ object.serial + count) }
 {
     let owner = object.owner;
     match object.serial.checked_add(count) {

@@ -5,9 +5,9 @@ Usage: tools/made_errors.py [--check]      lists the places with their reasons; 
 
 The library makes `AllocError` where a growth was refused, and `?` hands it on. But whoever has the type can write the value, and no contract tells the
 two apart. So each place is listed where code in crates/*/src, tests apart, has the value `AllocError` or an `AllocFailed` as an expression, calls
-`refused_growth`, or asks for the room of `usize::MAX` items, which no memory has. Beside them stand the places where an error `NoMemory` is made with no
-error at hand: in no arm of an `Err` or of a want of memory, in no `else` of a `let Ok`, in no `From` of the library's errors. Where an error is at hand, it
-isn't asked which. What is read wrongly here is a place too many, and fails."""
+`refused_growth`, or asks for the room of `usize::MAX` items, which no memory has, or of another number that is written with a shift or with seven digits.
+Beside them stand the places where an error `NoMemory` is made with no error at hand: in no arm of an `Err` or of a want of memory, in no `else` of a
+`let Ok`, in no `From` of the library's errors. Where an error is at hand, it isn't asked which. What is read wrongly here is a place too many, and fails."""
 import os
 import re
 import sys
@@ -68,7 +68,7 @@ CLAUSE = re.compile(r"\b(?:requires|ensures)\b[^{}]*$")
 # what a line has where it says nothing but types
 PASSED = re.compile(r"^\s*(?:ghost |pub )?use [^;]*;|[<,]\s*AllocError\s*>|^\s*//.*", re.M)
 IMPLEMENTS = re.compile(r"\bimpl\b")
-MADE = re.compile(r"\b(?:(AllocError|AllocFailed(?=\s*\{))|(refused_growth)(?=\s*\()|reserve\w*\s*\(\s*(usize::MAX)|(NoMemory))\b")
+MADE = re.compile(r"\b(?:(AllocError|AllocFailed(?=\s*\{))|(refused_growth)(?=\s*\()|reserve\w*\s*\(\s*(\w+::MAX|[^();]*<<[^();]*|\d[\d_]{6,}\w*)|(NoMemory))\b")
 AT_HAND = re.compile(r"\s*Err\s*\(|.*\b(?:NoMemory|OutOfMemory)\b", re.S)
 
 

@@ -1,5 +1,5 @@
 -- A commit that leaves an attempt to wait for an own object: an own put is never waited for, and of an own accepted one a copy is fetched.
-use Rattle.std.proofs.Common.{◌≡◌, ◌≤◌, ◌<◌, ℕ, zero, suc, List, [], ◌∷◌, ◌++◌, length, map, Some, None, Option, refl, ap, sym, subst, ◌∙◌, inl, inr, append_assoc, append-nil, arith}
+use Rattle.std.proofs.Common.{◌≡◌, ◌≢◌, ◌≤◌, ◌<◌, ℕ, zero, suc, List, [], ◌∷◌, ◌++◌, length, map, Some, None, Option, refl, ap, sym, subst, ◌∙◌, inl, inr, append_assoc, append-nil, arith}
 use Rattle.std.specs.Prelude.{true, false, if◌then◌else◌, not, ◌&&◌, ◌==◌}
 use Rattle.std.proofs.lemmas.Bool.{and_parts, eqb-true, not-true}
 use Rattle.std.proofs.lemmas.Bool.Decides.{nat_tests}
@@ -11,7 +11,7 @@ use Rattle.values.specs.Listed.{each_once, ids_in_outcome}
 use Rattle.event_log.proofs.Extending.{parts-more}
 use Rattle.event_log.specs.Breaks.{Among}
 use Rattle.event_log.specs.Entries.{Accepted, Attempt, Commit, Deliver, Entry, Event, In, main_attempt, NoJob, Opened, Refusal, Released, Stale}
-use Rattle.event_log.specs.Events.{from_one}
+use Rattle.event_log.specs.Events.{from_one, node_of}
 use Rattle.event_log.specs.Rules.{Setting}
 use Rattle.event_log.specs.Words.{attempt, births, same_attempt, worker_of}
 use Rattle.owed_asks.proofs.of_holding_steps.Known.{known_born}
@@ -47,6 +47,7 @@ use Rattle.owed_asks.specs.of_lease_discipline.Slots.{AreRight}
 use Rattle.owed_asks.specs.of_lease_discipline.Told.{IsInStep}
 use Rattle.owed_asks.proofs.of_lease_discipline.Heres.{changed_now}
 use Rattle.owed_asks.proofs.of_lease_discipline.Tame.{item_mapped}
+use Rattle.owed_asks.proofs.of_lease_discipline.Told.{locations}
 use Rattle.owed_asks.specs.Law.{EveryEvent, happening}
 use Rattle.owed_asks.proofs.Laws.{IsTaken, RunKeeps, calm_so_far, is_taken, last_log, last_whole, next_keeps, runs_keep}
 use Rattle.owed_asks.proofs.Needs.{new_foreign_waits_are_asked}
@@ -381,15 +382,21 @@ module _ (s : Setting) (slots : ℕ) (some : 0 < s.nodes) (slot : 1 ≤ slots) (
         let born : birth_at (births log_mid) y ≡ Some (Put v) = subst (λ (p : Part). birth_at (births log_mid) p.born.object ≡ Some p.born.birth) same (sane_mid.grouped.firsts y born_mid.0 born_mid.1) in
         not_on (W.put_answered s apart r.log c keeps.step.sound before new.job g.seat k.outcomes k.given k.at k.fresh k.worker k.there k.lives k.run k.runs k.out done y stop_is own_here serial unreleased v born)
 
+    home : node_of k.given.worker r.log ≡ Some k.worker.node
+    home = locations s r.log c keeps.step.sound.between k.given.worker k.worker k.there
+
+    same_number : (m n : ℕ) → ◌≡◌ {A = Option ℕ} (Some m) (Some n) → m ≡ n
+    same_number m n e = cc
+
     -- of an accepted one a copy is fetched
-    own_accepted : (number : ℕ) → Among (Accepted (attempt born_mid.0.born.object number)) r.log → SaysFetch (happening s r g step) w y
+    own_accepted : (number : ℕ) → Among (Accepted (attempt born_mid.0.born.object number)) r.log → (m : ℕ) × (node_of w r.log ≢ Some m) × SaysFetch (happening s r g step) w m y number
     own_accepted number i = elim (W.accepted_served s apart r.log c keeps.step.sound before new.job g.seat k.outcomes k.given k.at k.fresh k.worker k.there k.lives k.run k.runs k.out done y stop_is own_here serial unreleased number i) [
       | inl goes ↦ absurd (not_on goes)
-      | inr (n, m, sent) ↦ (
-        n,
+      | inr (m, other, sent) ↦ (
         m,
-        subst (λ v. Among (envelope (TheWorker v) (TheNode n) (Fetch y m)) step.envelopes) k.same
-            (subst (λ ls. Among (envelope (TheWorker k.given.worker) (TheNode n) (Fetch y m)) ls) (sym envelopes) sent),
+        λ at_home. other (same_number m k.worker.node (sym at_home ∙ ap (λ v. node_of v r.log) (sym k.same) ∙ home)),
+        subst (λ v. Among (envelope (TheWorker v) (TheNode m) (Fetch y number)) step.envelopes) k.same
+            (subst (λ ls. Among (envelope (TheWorker k.given.worker) (TheNode m) (Fetch y number)) ls) (sym envelopes) sent),
       )
     ]
 

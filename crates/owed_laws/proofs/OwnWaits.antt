@@ -274,15 +274,15 @@ module _ (s : Setting) (apart : KeepsMainApart s.script) (log : List Entry) (c :
             (no_dead_nodes s log_mid after_mid between calm_mid g.worker mid.worker there_mid) (λ none. stored number n (had.1 none) made) here_too)))
 
         -- it goes on, or fetches
-        pub own_served : IsServed g.worker y (release_step (commit_step start d))
+        pub own_served : IsServed g.worker x.node y number (release_step (commit_step start d))
         own_served =
-            let served : IsServed mid.me y (asks_where mid y) =
-            own_where (IsServed mid.me y) mid y is_own (serves borne later y object.0 number n item content.unfaulted content.whole content.number_is content.place
+            let served : IsServed mid.me mid.worker.node y number (asks_where mid y) =
+            own_where (IsServed mid.me mid.worker.node y number) mid y is_own (serves borne later y object.0 number n item content.unfaulted content.whole content.number_is content.place
             (no_dead_nodes s log_mid after_mid between calm_mid g.worker mid.worker there_mid) (λ none. stored number n (had.1 none) made)) in
-            subst (λ h. IsServed g.worker y (release_step h)) (sym committed)
-            (elim (subst (λ w. IsServed w y (asks_where mid y)) waits.who served) [
+            subst (λ h. IsServed g.worker x.node y number (release_step h)) (sym committed)
+            (elim (subst (λ m. IsServed g.worker m y number (asks_where mid y)) ahead.1.1.node (subst (λ w. IsServed w mid.worker.node y number (asks_where mid y)) waits.who served)) [
               | inl goes ↦ inl (goes_on_then (asks_where mid y) y goes)
-              | inr fetches ↦ inr (fetches_then g.worker (asks_where mid y) y fetches)
+              | inr fetches ↦ inr (fetches_then g.worker x.node (asks_where mid y) y number fetches)
             ])
 
       -- a put is on its owner's node
@@ -301,7 +301,7 @@ module _ (s : Setting) (apart : KeepsMainApart s.script) (log : List Entry) (c :
               none m = omega arith
 
       -- an accepted end is where its attempt ran
-      pub accepted_served : (number : ℕ) → Among (Accepted (attempt born_mid.0.born.object number)) log → IsServed g.worker y (release_step (commit_step start d))
+      pub accepted_served : (number : ℕ) → Among (Accepted (attempt born_mid.0.born.object number)) log → IsServed g.worker x.node y number (release_step (commit_step start d))
       accepted_served number i =
           let first : Id = born_mid.0.born.object in
           let a : Attempt = attempt first number in

@@ -32,7 +32,7 @@ module _ (R : WorkerContext → Type 0) (g : WorkerContext) (y : Id) (z : Object
     (no_dead : g.worker.dead_nodes ≡ []) (stored : z.kept ≡ None → n ≡ g.worker.node → (d : Outcome) × (copy_in (store_here g) y number ≡ Some d))
     (keeps : (f : Id) → f ≡ y → (d : Outcome) → R (gets (with_phase g run (Waits f None)) d))
     (finds : (f : Id) → f ≡ y → (d : Outcome) → R (gets (with_store (with_phase g run (Waits f None)) (looked_up (store_here g) y (settled_number z))) d))
-    (asks : (f : Id) → f ≡ y → (m : ℕ) → R (fetches (with_phase g run (Waits f None)) y (settled_number z) m)) where
+    (asks : (f : Id) → f ≡ y → R (fetches (with_phase g run (Waits f None)) y (settled_number z) n)) where
   looks_at : z.kept ≡ None → (f : Id) → f ≡ y → R (looks_at_locations (with_phase g run (Waits f None)) y z)
   looks_at none f is =
       let h : WorkerContext = with_phase g run (Waits f None) in
@@ -42,7 +42,7 @@ module _ (R : WorkerContext → Type 0) (g : WorkerContext) (y : Id) (z : Object
       R (if t then looks_here_by h y z (copy_in (store_here g) y (settled_number z)) else looks_elsewhere_by h y z (live_location h.worker (n ∷ []))))
       (has (n ∷ []) g.worker.node)
       (λ _ here_too. looks_here f is (stored none (eqb-true n g.worker.node (only (n == g.worker.node) here_too))))
-      (λ _ _. subst (λ ms. R (looks_elsewhere_by h y z (find (λ i. not (has ms i)) (n ∷ [])))) (sym no_dead) (asks f is n)) refl)
+      (λ _ _. subst (λ ms. R (looks_elsewhere_by h y z (find (λ i. not (has ms i)) (n ∷ [])))) (sym no_dead) (asks f is)) refl)
     where
       only : (t : Bool) → (t || false) ≡ true → t ≡ true
       only true e = refl
@@ -247,7 +247,7 @@ module _ (h : WorkerContext) (number n k : ℕ) (z : Object) (at : own_object h 
   looked_for run is needs =
       owner_looks (IsSame told) told o (without_askers z) run number n is told_item there.unfaulted whole_still (ap (λ s. unwrap_or s 0) there.settled) place_is
       dead_still stored_there (λ f _ d. gets_same told run f d) (λ f _ d. finds_same told run f o (settled_number z) d)
-      (λ f _ m. fetches_same told run f o (settled_number z) m) needs
+      (λ f _. fetches_same told run f o (settled_number z) n) needs
 
   pub answers_leave : Leaves h (answers_settled h o) k
   answers_leave = subst (λ g. Leaves h g k) (sym answer_is)

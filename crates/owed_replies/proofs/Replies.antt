@@ -450,10 +450,10 @@ module _ (s : Setting) (r : Running) (k : RunReplies s r) (calm : IsCalm r.log) 
             subst (λ g. Logged (Accepted a) (release_step (reached g (TheWorker w) (Finished a n rs)))) same
             (end_is_accepted (here c v q.worker q.node) w a n rs task (ap task_of (own_object_at v a q.worker q.node q.object q.own q.item) ∙ made) present)
 
-    more_runs : (a : Attempt) (es : List Entry) (w : ℕ) → worker_of a r.log ≡ Some w → worker_of a (r.log ++ es) ≡ Some w
+    pub more_runs : (a : Attempt) (es : List Entry) (w : ℕ) → worker_of a r.log ≡ Some w → worker_of a (r.log ++ es) ≡ Some w
     more_runs a es w f = word-more (run_in a.object) r.log es a.number w f
 
-    more_opened : (w : ℕ) (es : List Entry) (n : ℕ) → node_of w r.log ≡ Some n → node_of w (r.log ++ es) ≡ Some n
+    pub more_opened : (w : ℕ) (es : List Entry) (n : ℕ) → node_of w r.log ≡ Some n → node_of w (r.log ++ es) ≡ Some n
     more_opened zero es n f = absurd (cc)
     more_opened (suc j) es n f = word-more opened_in r.log es j n f
 

@@ -1,5 +1,5 @@
 -- At an acceptance the owner's own attempt, if it waits, is answered or fetches.
-use Rattle.std.proofs.Common.{[], ap, inl, inr, None, Option, refl, Some, subst, sym, ℕ, ◌++◌, ◌+◌, ◌-◌, ◌∙◌, ◌∷◌, ◌≡◌, ◌≢◌, ◌⊎◌}
+use Rattle.std.proofs.Common.{[], ap, inl, inr, None, Option, refl, Some, subst, suc, sym, ℕ, ◌++◌, ◌+◌, ◌-◌, ◌∙◌, ◌∷◌, ◌≡◌, ◌≢◌, ◌⊎◌}
 use Rattle.std.specs.Prelude.{Bool, true, false}
 use Rattle.std.specs.Option.{unwrap_or}
 use Rattle.meaning.proofs.BirthLaws.{same_id-true}
@@ -27,8 +27,8 @@ use Rattle.protocol.specs.Cluster.{ClusterState, here, worker_at}
 use Rattle.lease_discipline.specs.of_protocol_legal.Whole.{Between, setting_of}
 use Rattle.protocol_owed.specs.Replies.{AcceptedIsUsed, Happening, IsGot, SaysFetch}
 use Rattle.protocol_owed.specs.Runs.{Running}
-use Rattle.protocol_owed.specs.Seen.{IsCalm}
-use Rattle.protocol_owed.proofs.Envelopes.{among-last}
+use Rattle.protocol_owed.specs.Seen.{AcceptedAt, IsCalm}
+use Rattle.protocol_owed.proofs.Envelopes.{among-behind, among-last}
 use Rattle.protocol_owed.proofs.Replying.{gets_it, Logged, logged_after, logged_stays, Sent, sent_after, sent_stays}
 use Rattle.lease_discipline.specs.Told.{IsInStep}
 use Rattle.owed_replies.specs.Law.{happening}
@@ -37,22 +37,21 @@ use Rattle.owed_replies.proofs.Delivered.{delivered_out}
 use Rattle.owed_replies.proofs.Answering.{IsThere, answer_is, dead_still, owner_looks, place_is, stored_there, tells-me, tells-worker, told_item, whole_still}
 use Rattle.protocol_owed.proofs.Moves as M
 use Rattle.event_log.proofs.SaneLaws.{legal_logs_are_sane}
-use Rattle.owed_replies.proofs.Replies.{IsAccepted, IsEnd, IsRowOf, Pends, Stage, as_delivery, end_of, node_lives, not_twice, row_answered, row_in, stage}
+use Rattle.owed_replies.proofs.Replies.{IsAccepted, IsEnd, IsRowOf, Pends, Stage, as_delivery, end_of, more_opened, more_runs, node_lives, not_twice, row_answered, row_in, stage}
 use Rattle.owed_replies.proofs.Runs.{RunReplies}
 use Rattle.owed_replies.proofs.Waiting.{IsWaiting, waits_so}
 
 -- ---- the owner looks for a content that is there
 
--- it is answered, or fetches
-abbrev pub IsServed : Execution → ℕ → Id → WorkerContext → Type 0
-IsServed run me y g =
-    ((d : Outcome) × Logged (Got run.attempt y d) g) ⊎ ((n number : ℕ) × Sent (envelope (TheWorker me) (TheNode n) (Fetch y number)) g)
+-- it is answered, or fetches that content from the node
+abbrev pub IsServed : Execution → ℕ → ℕ → ℕ → Id → WorkerContext → Type 0
+IsServed run number n me y g = ((d : Outcome) × Logged (Got run.attempt y d) g) ⊎ Sent (envelope (TheWorker me) (TheNode n) (Fetch y number)) g
 
-served_stays : (run : Execution) (me : ℕ) (y : Id) (h : WorkerContext) (o : Id) → IsServed run me y h → IsServed run me y (answers_settled h o)
-served_stays run me y h o (inl q) = inl (q.0, M.answers_settled-kept (Logged (Got run.attempt y q.0)) (logged_stays (Got run.attempt y q.0)) h o q.1)
-served_stays run me y h o (inr q) =
-    let l : Envelope = envelope (TheWorker me) (TheNode q.0) (Fetch y q.1) in
-    inr (q.0, q.1, M.answers_settled-kept (Sent l) (sent_stays l) h o q.2)
+served_stays : (run : Execution) (number n me : ℕ) (y : Id) (h : WorkerContext) (o : Id) → IsServed run number n me y h → IsServed run number n me y (answers_settled h o)
+served_stays run number n me y h o (inl q) = inl (q.0, M.answers_settled-kept (Logged (Got run.attempt y q.0)) (logged_stays (Got run.attempt y q.0)) h o q.1)
+served_stays run number n me y h o (inr q) =
+    let l : Envelope = envelope (TheWorker me) (TheNode n) (Fetch y number) in
+    inr (M.answers_settled-kept (Sent l) (sent_stays l) h o q)
 
 module _ (s : Setting) (r : Running) (k : RunReplies s r) (calm : IsCalm r.log) where
   abbrev c : ClusterState
@@ -63,21 +62,23 @@ module _ (s : Setting) (r : Running) (k : RunReplies s r) (calm : IsCalm r.log) 
 
   -- the answer to what the owner's own attempt waits for
   answer_serves : (h : WorkerContext) (number n t : ℕ) (z : Object) (run : Execution) → own_object h t ≡ Some z → IsThere h number n t z → h.worker.dead_nodes ≡ [] → h.worker.run ≡ Some run →
-      object_needed run.phase ≡ Some (own_id h t) → IsServed run h.me (own_id h t) (answers_settled h (own_id h t))
+      object_needed run.phase ≡ Some (own_id h t) → IsServed run number n h.me (own_id h t) (answers_settled h (own_id h t))
   answer_serves h number n t z run at there no_dead is needs =
       let o : Id = own_id h t in
       let f : WorkerContext = changes h o without_askers in
       let told : WorkerContext = tells_locations f z.askers o z in
       let same : told.worker ≡ f.worker = tells-worker f z.askers o z in
       let me_same : told.me ≡ h.me = tells-me f z.askers o z in
-      let now : IsServed run told.me o (needs_own_if_waiting told o) =
-      owner_looks (IsServed run told.me o) told o (without_askers z) run number n (ap (λ (x : Worker). x.run) same ∙ is) (told_item h number n t z at there no_dead) there.unfaulted
-      (whole_still h number n t z at there no_dead) (ap (λ s. unwrap_or s 0) there.settled) (place_is h number n t z at there no_dead) (dead_still h number n t z at there no_dead)
+      let number_is : settled_number z ≡ number = ap (λ s. unwrap_or s 0) there.settled in
+      let now : IsServed run number n told.me o (needs_own_if_waiting told o) =
+      owner_looks (IsServed run number n told.me o) told o (without_askers z) run number n (ap (λ (x : Worker). x.run) same ∙ is) (told_item h number n t z at there no_dead) there.unfaulted
+      (whole_still h number n t z at there no_dead) number_is (place_is h number n t z at there no_dead) (dead_still h number n t z at there no_dead)
       (stored_there h number n t z at there no_dead)
       (λ y e d. inl (d, gets_it (with_phase told run (Waits y None)) (record run { phase = Waits y None }) d o refl (ap (λ i. Some i) e)))
       (λ y e d. inl (d, gets_it (with_store (with_phase told run (Waits y None)) (looked_up (store_here told) o (settled_number z))) (record run { phase = Waits y None }) d o refl (ap (λ i. Some i) e)))
-      (λ y e m. inr (m, settled_number z, among-last told.there.out.envelopes (envelope (TheWorker told.me) (TheNode m) (Fetch o (settled_number z))))) needs in
-      subst (IsServed run h.me o) (sym (answer_is h number n t z at there no_dead)) (subst (λ w. IsServed run w o (needs_own_if_waiting told o)) me_same now)
+      (λ y e. inr (subst (λ i. Among (envelope (TheWorker told.me) (TheNode n) (Fetch o i)) (told.there.out.envelopes ++ envelope (TheWorker told.me) (TheNode n) (Fetch o (settled_number z)) ∷ []))
+      number_is (among-last told.there.out.envelopes (envelope (TheWorker told.me) (TheNode n) (Fetch o (settled_number z)))))) needs in
+      subst (IsServed run number n h.me o) (sym (answer_is h number n t z at there no_dead)) (subst (λ w. IsServed run number n w o (needs_own_if_waiting told o)) me_same now)
 
   module _ (e : Event) (seat : ℕ) (handed : CommitInput) (step : Step) (answered : answer c e handed ≡ Takes step) where
     abbrev hap : Happening
@@ -101,7 +102,7 @@ module _ (s : Setting) (r : Running) (k : RunReplies s r) (calm : IsCalm r.log) 
         by_stage : (f : IsBrought c e d) (q : IsEnd s r k calm f.number f.sender f.owner d f.node f.results) →
             step.entries ≡ (release_step (reached (here c f.owner q.worker q.node) (TheWorker f.sender) (Finished d f.node f.results))).there.out.entries →
             step.envelopes ≡ (release_step (reached (here c f.owner q.worker q.node) (TheWorker f.sender) (Finished d f.node f.results))).there.out.envelopes →
-            IsWaiting s r k calm y.owner a y → Stage s r k calm d q.worker q.object → IsGot hap a y ⊎ SaysFetch hap y.owner y
+            IsWaiting s r k calm y.owner a y → Stage s r k calm d q.worker q.object → IsGot hap a y ⊎ ((n : ℕ) × AcceptedAt (r.log ++ In e seat ∷ step.entries) y number n × SaysFetch hap y.owner n y number)
         by_stage f q entries envelopes w (IsAccepted i) = absurd (not_twice s r k calm e seat handed step answered d after logged i)
         by_stage f q entries envelopes w (Pends task made present knows unaccepted only) =
             elim result [
@@ -111,11 +112,11 @@ module _ (s : Setting) (r : Running) (k : RunReplies s r) (calm : IsCalm r.log) 
                     (subst (λ es. Among (Got w.run.attempt y g.0) es) (sym entries) (logged_after (Got w.run.attempt y g.0) (finished_reached h f.sender d f.node f.results) g.1)),
               )
               | inr g ↦ inr (
-                g.0,
-                g.1,
-                subst (λ v. Among (envelope (TheWorker v) (TheNode g.0) (Fetch y g.1)) step.envelopes) (q.own ∙ row.owner)
-                    (subst (λ ls. Among (envelope (TheWorker f.owner) (TheNode g.0) (Fetch y g.1)) ls) (sym envelopes)
-                    (sent_after (envelope (TheWorker f.owner) (TheNode g.0) (Fetch y g.1)) (finished_reached h f.sender d f.node f.results) g.2)),
+                f.node,
+                ran_there,
+                subst (λ v. Among (envelope (TheWorker v) (TheNode f.node) (Fetch y number)) step.envelopes) (q.own ∙ row.owner)
+                    (subst (λ ls. Among (envelope (TheWorker f.owner) (TheNode f.node) (Fetch y number)) ls) (sym envelopes)
+                    (sent_after (envelope (TheWorker f.owner) (TheNode f.node) (Fetch y number)) (finished_reached h f.sender d f.node f.results) g)),
               )
             ]
           where
@@ -124,6 +125,16 @@ module _ (s : Setting) (r : Running) (k : RunReplies s r) (calm : IsCalm r.log) 
 
             h : WorkerContext
             h = here c f.owner q.worker q.node
+
+            ran_there : AcceptedAt (r.log ++ In e seat ∷ step.entries) y number f.node
+            ran_there = record {
+              part = part;
+              born = born;
+              accepted = among-behind r.log (In e seat ∷ step.entries) (Accepted d) (suc logged.0, logged.1);
+              worker = q.ended.worker;
+              ran = more_runs s r k calm e seat handed step answered d (In e seat ∷ step.entries) q.ended.worker q.ended.runs;
+              place = more_opened s r k calm e seat handed step answered q.ended.worker (In e seat ∷ step.entries) f.node q.ended.home;
+            }
 
             row : IsRowOf s r k calm e seat handed step answered d task.spec y place
             row = row_in s r k calm e seat handed step answered (In e seat ∷ step.entries)
@@ -154,10 +165,10 @@ module _ (s : Setting) (r : Running) (k : RunReplies s r) (calm : IsCalm r.log) 
                     let same : y ≡ own_id g j = same_id-true y (own_id g j) (sym needed ∙ e) in
                     absurd (apart (sym (ap (λ (o : Id). o.serial) same) ∙ row.serial))
 
-            result : IsServed w.run f.owner y (finished_reached h f.sender d f.node f.results)
+            result : IsServed w.run number f.node f.owner y (finished_reached h f.sender d f.node f.results)
             result = row_answered s r k calm f.owner d f.node q.own q.ended q.worker q.there q.lives f.results q.small task present knows unaccepted only q.node q.home
-                lives f.sender (IsServed w.run f.owner y) (served_stays w.run f.owner y) (λ o. o ≡ Some w.run) place row.within
+                lives f.sender (IsServed w.run number f.node f.owner y) (served_stays w.run number f.node f.owner y) (λ o. o ≡ Some w.run) place row.within
                 (λ g g' j me apart l is. l.runs (not_other g j apart is) ∙ is)
-                (λ g me there it no_dead is. subst (λ o. IsServed w.run f.owner o (answers_settled g (own_id g (d.object.serial + place)))) (row_is g me)
-                (subst (λ v. IsServed w.run v (own_id g (d.object.serial + place)) (answers_settled g (own_id g (d.object.serial + place)))) me
+                (λ g me there it no_dead is. subst (λ o. IsServed w.run number f.node f.owner o (answers_settled g (own_id g (d.object.serial + place)))) (row_is g me)
+                (subst (λ v. IsServed w.run number f.node v (own_id g (d.object.serial + place)) (answers_settled g (own_id g (d.object.serial + place)))) me
                 (answer_serves g number f.node (d.object.serial + place) _ w.run there it no_dead is (w.needs ∙ ap (λ i. Some i) (sym (row_is g me)))))) run_is q.object q.item made

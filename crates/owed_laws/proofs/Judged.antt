@@ -1,7 +1,7 @@
 -- The worked examples of what is owed.
 use Rattle.std.proofs.Common.{◌≡◌, ◌<◌, ℕ, zero, suc, Bool, true, false, List, [], ◌∷◌, Some, None, Option, refl, ap, sym, subst, ◌∙◌, inl, inr, arith}
 use Rattle.meaning.specs.Births.{Part, birth_at, is_made_by, part_at, same_id}
-use Rattle.meaning.proofs.BirthLaws.{first_is_made}
+use Rattle.meaning.proofs.BirthLaws.{first_is_made, made_owner}
 use Rattle.std.specs.Prelude.{slice_get}
 use Rattle.owed_laws.specs.Examples.{acknowledged, birth_comes, BirthsAreJudged, empty_list, end_comes, ended_log, ended_network, EndsAreJudged, fetch_comes}
 use Rattle.owed_laws.specs.Examples.{fetch_scene, FetchesAreJudged, long_list, put_log, report_scene, ReportsAreJudged, request_comes, request_scene}
@@ -395,7 +395,7 @@ abbrev report_network : List Envelope → List Envelope
 report_network envelopes = envelope (TheWorker 1) (TheWorker 2) (Push first_one one_once) ∷ envelopes
 
 abbrev one_hold : List Envelope
-one_hold = envelope (TheWorker 2) (TheWorker 3) (Hold (object_id 1 1) (object_id 3 1)) ∷ []
+one_hold = envelope (TheWorker 2) (TheWorker 1) (Hold (object_id 1 1) (object_id 1 2)) ∷ []
 
 not_main : first_one ≡ main_attempt → ⊥
 not_main e = let f : ◌≡◌ {A = ℕ} 1 0 = ap (λ (a : Attempt). a.object.serial) e in omega (arith, f)
@@ -413,8 +413,9 @@ only_first s envelopes a c (suc (suc (suc (suc zero))), e) = absurd (cc)
 only_first s envelopes a c (suc (suc (suc (suc (suc zero)))), e) = absurd (cc)
 only_first s envelopes a c (suc (suc (suc (suc (suc (suc zero))))), e) = absurd (cc)
 only_first s envelopes a c (suc (suc (suc (suc (suc (suc (suc zero)))))), e) = absurd (cc)
-only_first s envelopes a c (suc (suc (suc (suc (suc (suc (suc (suc zero))))))), e) = cc
-only_first s envelopes a c (suc (suc (suc (suc (suc (suc (suc (suc (suc k)))))))), e) = absurd (cc)
+only_first s envelopes a c (suc (suc (suc (suc (suc (suc (suc (suc zero))))))), e) = absurd (cc)
+only_first s envelopes a c (suc (suc (suc (suc (suc (suc (suc (suc (suc zero)))))))), e) = cc
+only_first s envelopes a c (suc (suc (suc (suc (suc (suc (suc (suc (suc (suc k))))))))), e) = absurd (cc)
 
 no_hold : (k v : ℕ) (e o : Id) → item_at (report_network []) k ≡ Some (envelope (TheWorker 2) (TheWorker v) (Hold e o)) → ⊥
 no_hold zero v e o f = cc
@@ -433,15 +434,68 @@ no_report n rs (suc k, e) = absurd (cc)
 
 untold_is_refused : (s : Setting) → EndsAreReported (report_scene s []) → ⊥
 untold_is_refused s p =
-    let r = p first_one (Val empty_list ∷ []) 2 (8, refl) not_main (runs_first s []) (λ k e o h. absurd (no_hold k o.owner e o h.held.there)) in
+    let r = p first_one (Val empty_list ∷ []) 2 (9, refl) not_main (runs_first s []) (λ k e o h. absurd (no_hold k o.owner e o h.held.there)) in
     no_report r.0 r.1 r.2
 
-hold_is_its : (s : Setting) → IsHoldOf (report_scene s one_hold) first_one 2 2 (object_id 1 1) (object_id 3 1)
+-- a Hold for an object that was never born excuses nothing
+abbrev unborn_hold : List Envelope
+unborn_hold = envelope (TheWorker 2) (TheWorker 3) (Hold (object_id 1 1) (object_id 3 1)) ∷ []
+
+-- whatever was born is worker 1's
+born_by_one : (s : Setting) (first : Id) (a : Attempt) (b : Birth) → Among (Born first a b) (report_scene s unborn_hold).log → first.owner ≡ 1
+born_by_one s first a b (zero, e) = absurd (cc)
+born_by_one s first a b (suc zero, e) = absurd (cc)
+born_by_one s first a b (suc (suc zero), e) = absurd (cc)
+born_by_one s first a b (suc (suc (suc zero)), e) = absurd (cc)
+born_by_one s first a b (suc (suc (suc (suc zero))), e) = let is : object_id 1 1 ≡ first = cc in ap (λ (o : Id). o.owner) (sym is)
+born_by_one s first a b (suc (suc (suc (suc (suc zero)))), e) = absurd (cc)
+born_by_one s first a b (suc (suc (suc (suc (suc (suc zero))))), e) = absurd (cc)
+born_by_one s first a b (suc (suc (suc (suc (suc (suc (suc zero)))))), e) = let is : object_id 1 2 ≡ first = cc in ap (λ (o : Id). o.owner) (sym is)
+born_by_one s first a b (suc (suc (suc (suc (suc (suc (suc (suc zero))))))), e) = absurd (cc)
+born_by_one s first a b (suc (suc (suc (suc (suc (suc (suc (suc (suc zero)))))))), e) = absurd (cc)
+born_by_one s first a b (suc (suc (suc (suc (suc (suc (suc (suc (suc (suc k))))))))), e) = absurd (cc)
+
+holds_of_three : (k v : ℕ) (e o : Id) → item_at (report_network unborn_hold) k ≡ Some (envelope (TheWorker 2) (TheWorker v) (Hold e o)) → o.owner ≡ 3
+holds_of_three zero v e o f = absurd (cc)
+holds_of_three (suc zero) v e o f =
+    let same : envelope (TheWorker 1) (TheWorker 2) (Push first_one one_once) ≡ envelope (TheWorker 2) (TheWorker v) (Hold e o) = cc in
+    let g : Push first_one one_once ≡ Hold e o = ap (λ (l : Envelope). l.message) same in
+    absurd (cc)
+holds_of_three (suc (suc zero)) v e o f =
+    let same : envelope (TheWorker 2) (TheWorker 3) (Hold (object_id 1 1) (object_id 3 1)) ≡ envelope (TheWorker 2) (TheWorker v) (Hold e o) = cc in
+    let g : Hold (object_id 1 1) (object_id 3 1) ≡ Hold e o = ap (λ (l : Envelope). l.message) same in
+    let is : object_id 3 1 ≡ o = cc in
+    ap (λ (p : Id). p.owner) (sym is)
+holds_of_three (suc (suc (suc k))) v e o f = absurd (cc)
+
+unborn_unreported : (n : ℕ) (rs : List EndedResult) → Among (envelope (TheWorker 2) (TheWorker 1) (Finished first_one n rs)) (report_network unborn_hold) → ⊥
+unborn_unreported n rs (zero, e) =
+    let same : envelope (TheWorker 1) (TheWorker 2) (Push first_one one_once) ≡ envelope (TheWorker 2) (TheWorker 1) (Finished first_one n rs) = cc in
+    let g : Push first_one one_once ≡ Finished first_one n rs = ap (λ (l : Envelope). l.message) same in
+    absurd (cc)
+unborn_unreported n rs (suc zero, e) =
+    let same : envelope (TheWorker 2) (TheWorker 3) (Hold (object_id 1 1) (object_id 3 1)) ≡ envelope (TheWorker 2) (TheWorker 1) (Finished first_one n rs) = cc in
+    let g : Hold (object_id 1 1) (object_id 3 1) ≡ Finished first_one n rs = ap (λ (l : Envelope). l.message) same in
+    absurd (cc)
+unborn_unreported n rs (suc (suc k), e) = absurd (cc)
+
+unborn_is_refused : (s : Setting) → EndsAreReported (report_scene s unborn_hold) → ⊥
+unborn_is_refused s p =
+    let r = p first_one (Val empty_list ∷ []) 2 (9, refl) not_main (runs_first s unborn_hold) (λ k e o h.
+    let born = h.born in
+    let owner = made_owner (record { object = born.0; birth = born.2 }) o born.4 in
+    let one = born_by_one s born.0 born.1 born.2 born.3 in
+    let three = holds_of_three k o.owner e o h.held.there in
+    absurd (omega (arith, owner, one, three))) in
+    unborn_unreported r.0 r.1 r.2
+
+hold_is_its : (s : Setting) → IsHoldOf (report_scene s one_hold) first_one 2 2 (object_id 1 1) (object_id 1 2)
 hold_is_its s = record {
   spec = one_once;
   push = 1;
   pushed = record { there = refl; earlier = λ i less at. none i less at };
   entry = inl (first_is_made (record { object = first_one.object; birth = one_once }));
+  born = (object_id 1 2, main_attempt, Put empty_list, (7, refl), first_is_made (record { object = object_id 1 2; birth = Put empty_list }));
   held = record { there = refl; behind = omega arith; between = λ i far less at. absurd (omega (arith, far, less)) };
 }
   where
@@ -457,8 +511,8 @@ no_younger (suc (suc (suc k))) l less at = cc
 
 never_told : (s : Setting) → HoldsAreAcknowledged (report_scene s one_hold) first_one 2 → ⊥
 never_told s all =
-    let ack = all 2 (object_id 1 1) (object_id 3 1) (hold_is_its s) in
-    no_younger ack.number (envelope (TheWorker 3) (TheWorker 2) (HoldAck (object_id 1 1) (object_id 3 1))) ack.since ack.sent
+    let ack = all 2 (object_id 1 1) (object_id 1 2) (hold_is_its s) in
+    no_younger ack.number (envelope (TheWorker 1) (TheWorker 2) (HoldAck (object_id 1 1) (object_id 1 2))) ack.since ack.sent
 
 waiting_is_allowed : (s : Setting) → EndsAreReported (report_scene s one_hold)
 waiting_is_allowed s a c w ended other ran all =
@@ -470,4 +524,4 @@ waiting_is_allowed s a c w ended other ran all =
     same_runner e = cc
 
 pub reports_are_judged : ReportsAreJudged
-reports_are_judged = record { untold = untold_is_refused; waits = waiting_is_allowed }
+reports_are_judged = record { untold = untold_is_refused; unborn = unborn_is_refused; waits = waiting_is_allowed }

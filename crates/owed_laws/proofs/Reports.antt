@@ -29,11 +29,11 @@ use Rattle.protocol_owed.specs.Seen.{IsCalm, delivers}
 use Rattle.owed_asks.specs.of_lease_discipline.Discipline.{IsDone}
 use Rattle.owed_asks.specs.of_lease_discipline.Slots.{AreRight}
 use Rattle.owed_asks.proofs.Laws as A
-use Rattle.owed_replies.specs.Kept.{IsReported}
+use Rattle.owed_replies.specs.Kept.{IsReported, KeepsReplies}
 use Rattle.owed_replies.specs.Law.{AwaitsAcks}
 use Rattle.owed_replies.proofs.Advancing.{all_among}
 use Rattle.owed_replies.proofs.Quiet.{all_live}
-use Rattle.owed_replies.proofs.Runs.{law_of_ends}
+use Rattle.owed_replies.proofs.Runs.{law_of_ends, run_replies}
 use Rattle.owed_laws.proofs.HoldEvents.{KeepsHolds, RunKeeps, push_by}
 use Rattle.owed_laws.proofs.HoldFacts.{IsFirst, first_behind, hold_is, is_hold, is_hold_of}
 use Rattle.owed_laws.proofs.HoldRuns.{run_holds}
@@ -62,7 +62,7 @@ deliver_among n (x ∷ es) e =
 same_number : (m n : ℕ) → ◌≡◌ {A = Option ℕ} (Some m) (Some n) → m ≡ n
 same_number m n e = cc
 
-module _ (s : Setting) (r : Running) (keeps : A.RunKeeps s r) (k : KeepsHolds r.log r.whole) (calm : IsCalm r.log) where
+module _ (s : Setting) (r : Running) (keeps : A.RunKeeps s r) (k : KeepsHolds r.log r.whole) (told : KeepsReplies r.log r.whole) (calm : IsCalm r.log) where
   abbrev b : Between s r.log r.whole
   b = keeps.step.sound.between
 
@@ -106,6 +106,7 @@ module _ (s : Setting) (r : Running) (keeps : A.RunKeeps s r) (k : KeepsHolds r.
           push = old.place;
           pushed = record { there = q.1; earlier = λ i less envelope. q.2 i q.0 less envelope };
           entry = entry q.0 (pushed_born q.0 old.place q.1) held.entry;
+          born = (told.runs w x run at is).holds j listed;
           held = record {
             there = there;
             behind = first.behind;
@@ -165,7 +166,8 @@ ends_are_reported s slots some slot apart gs right calm a c w ended other ran al
     let r : Running = after_events (opening_run s.nodes slots) gs in
     let keeps : A.RunKeeps s r = A.runs_keep s slots some slot apart gs right in
     let k : KeepsHolds r.log r.whole = run_holds s slots some slot apart gs right calm in
+    let told : KeepsReplies r.log r.whole = (run_replies s slots some apart gs right).replies in
     elim (law_of_ends s slots some apart gs right calm a c ended (false_from_ne_true (same_attempt a main_attempt) (λ t. other (same_attempt-true a main_attempt t)))) [
-      | inl told ↦ reported s r keeps k calm a w other ran told
-      | inr waits ↦ absurd (waits_for_none s r keeps k calm a w other ran all waits)
+      | inl word ↦ reported s r keeps k told calm a w other ran word
+      | inr waits ↦ absurd (waits_for_none s r keeps k told calm a w other ran all waits)
     ]

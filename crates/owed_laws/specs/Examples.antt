@@ -139,19 +139,21 @@ pub record RequestsAreJudged : Type 0 where
 
 -- ---- a report
 
--- worker 2 was pushed the attempt, and that ended
+-- main has put a list too; worker 2 was pushed the attempt, and that ended
 abbrev pub report_scene : Setting → List Envelope → Scene
 report_scene s envelopes =
     record {
       setting = s;
       slots = 1;
-      log = given_log ++ Begun first_one 2 ∷ Ended first_one (Val empty_list ∷ []) ∷ [];
+      log = given_log ++ Born (object_id 1 2) main_attempt (Put empty_list) ∷ Begun first_one 2 ∷ Ended first_one (Val empty_list ∷ []) ∷ [];
       network = envelope (TheWorker 1) (TheWorker 2) (Push first_one one_once) ∷ envelopes;
       slot_holders = λ n. [];
       keeps = λ n o number. false;
     }
 
--- it isn't told, though no Hold was sent; and it needn't be yet, where a Hold for the attempt's object waits
+-- it isn't told, though no Hold was sent, or only one for an object that was never born; and it needn't be yet, where a Hold of the list waits, which
+-- the attempt's object names
 pub record ReportsAreJudged : Type 0 where
   pub untold : (s : Setting) → EndsAreReported (report_scene s []) → ⊥
-  pub waits : (s : Setting) → EndsAreReported (report_scene s (envelope (TheWorker 2) (TheWorker 3) (Hold (object_id 1 1) (object_id 3 1)) ∷ []))
+  pub unborn : (s : Setting) → EndsAreReported (report_scene s (envelope (TheWorker 2) (TheWorker 3) (Hold (object_id 1 1) (object_id 3 1)) ∷ [])) → ⊥
+  pub waits : (s : Setting) → EndsAreReported (report_scene s (envelope (TheWorker 2) (TheWorker 1) (Hold (object_id 1 1) (object_id 1 2)) ∷ []))

@@ -389,7 +389,8 @@ module _ (s : Setting) (slots : ℕ) (some : 0 < s.nodes) (slot : 1 ≤ slots) (
     same_number m n e = cc
 
     -- of an accepted one a copy is fetched
-    own_accepted : (number : ℕ) → Among (Accepted (attempt born_mid.0.born.object number)) r.log → (m : ℕ) × (node_of w r.log ≢ Some m) × SaysFetch (happening s r g step) w m y number
+    own_accepted : (number : ℕ) → Among (Accepted (attempt born_mid.0.born.object number)) r.log →
+        (m : ℕ) × (node_of w r.log ≢ Some m) × SaysFetch (happening s r g step) w m y number
     own_accepted number i = elim (W.accepted_served s apart r.log c keeps.step.sound before new.job g.seat k.outcomes k.given k.at k.fresh k.worker k.there k.lives k.run k.runs k.out done y stop_is own_here serial unreleased number i) [
       | inl goes ↦ absurd (not_on goes)
       | inr (m, other, sent) ↦ (

@@ -38,7 +38,8 @@ IsServed me home y number g = GoesOnHere g ⊎ Fetches me home y number g
 
 -- where a place is listed, none of which is known dead, it fetches
 elsewhere : (g : WorkerContext) (run : Execution) (y : Id) (x : Object) (number : ℕ) → settled_number x ≡ number → g.worker.dead_nodes ≡ [] →
-    is_empty x.locations ≡ false → has x.locations g.worker.node ≡ false → Fetches g.me g.worker.node y number (looks_elsewhere (with_phase g run (Waits y None)) y x)
+    is_empty x.locations ≡ false → has x.locations g.worker.node ≡ false →
+    Fetches g.me g.worker.node y number (looks_elsewhere (with_phase g run (Waits y None)) y x)
 elsewhere g run y x number number_is no_dead some not_here =
     let h : WorkerContext = with_phase g run (Waits y None) in
     let first = found x.locations some not_here in
@@ -107,7 +108,8 @@ module _ (g : WorkerContext) (run : Execution) (y : Id) (z : Object) (number n :
       apart k e false f = f
       apart k e true f = let q = stored k (eqb-true n g.worker.node f) in absurd (none_some q.0 (sym e ∙ is_stored q.0 q.1))
 
-      by_copy : z.kept ≡ None → (o : Option Outcome) → copy_in (store_here g) y (settled_number z) ≡ o → IsServed g.me g.worker.node y number (looks_here_by h y z o)
+      by_copy : z.kept ≡ None → (o : Option Outcome) → copy_in (store_here g) y (settled_number z) ≡ o →
+          IsServed g.me g.worker.node y number (looks_here_by h y z o)
       by_copy k (Some d) e = inl (copied d)
       by_copy k None e = inr (elsewhere (changes g y (without_location g.worker.node)) run y (without_location g.worker.node z) number number_is no_dead
           (some_place (without_number z.locations g.worker.node) (has_without z.locations g.worker.node n (apart k e (n == g.worker.node) refl) (place k))) (has-gone z.locations g.worker.node))
@@ -132,7 +134,8 @@ goes_on_then h y (next, is, ready) = (next, release_step-run (rests_if_waiting h
     rested : (rests_if_waiting h y).worker.run ≡ h.worker.run
     rested = at_test (λ t. (if t then gives_slot_back h else h).worker.run ≡ h.worker.run) (is_waiting_for h.worker y) (λ _. refl) (λ _. refl)
 
-pub fetches_then : (me home : ℕ) (h : WorkerContext) (y : Id) (number : ℕ) → Fetches me home y number h → Fetches me home y number (release_step (rests_if_waiting h y))
+pub fetches_then : (me home : ℕ) (h : WorkerContext) (y : Id) (number : ℕ) → Fetches me home y number h →
+    Fetches me home y number (release_step (rests_if_waiting h y))
 fetches_then me home h y number (n, other, sent) =
     let l = envelope (TheWorker me) (TheNode n) (Fetch y number) in
     (n, other, sent_after l (rests_if_waiting h y) (rests_if_waiting-kept (Sent l) (sent_stays l) h y sent))

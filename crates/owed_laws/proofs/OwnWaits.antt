@@ -301,7 +301,8 @@ module _ (s : Setting) (apart : KeepsMainApart s.script) (log : List Entry) (c :
               none m = omega arith
 
       -- an accepted end is where its attempt ran
-      pub accepted_served : (number : ℕ) → Among (Accepted (attempt born_mid.0.born.object number)) log → IsServed g.worker x.node y number (release_step (commit_step start d))
+      pub accepted_served : (number : ℕ) → Among (Accepted (attempt born_mid.0.born.object number)) log →
+          IsServed g.worker x.node y number (release_step (commit_step start d))
       accepted_served number i =
           let first : Id = born_mid.0.born.object in
           let a : Attempt = attempt first number in

@@ -47,7 +47,8 @@ use Rattle.owed_replies.proofs.Waiting.{IsWaiting, waits_so}
 abbrev pub IsServed : Execution → ℕ → ℕ → ℕ → Id → WorkerContext → Type 0
 IsServed run number n me y g = ((d : Outcome) × Logged (Got run.attempt y d) g) ⊎ Sent (envelope (TheWorker me) (TheNode n) (Fetch y number)) g
 
-served_stays : (run : Execution) (number n me : ℕ) (y : Id) (h : WorkerContext) (o : Id) → IsServed run number n me y h → IsServed run number n me y (answers_settled h o)
+served_stays : (run : Execution) (number n me : ℕ) (y : Id) (h : WorkerContext) (o : Id) → IsServed run number n me y h →
+    IsServed run number n me y (answers_settled h o)
 served_stays run number n me y h o (inl q) = inl (q.0, M.answers_settled-kept (Logged (Got run.attempt y q.0)) (logged_stays (Got run.attempt y q.0)) h o q.1)
 served_stays run number n me y h o (inr q) =
     let l : Envelope = envelope (TheWorker me) (TheNode n) (Fetch y number) in

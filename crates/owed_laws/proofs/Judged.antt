@@ -475,7 +475,7 @@ unborn_unreported n rs (zero, e) =
     absurd (cc)
 unborn_unreported n rs (suc zero, e) =
     let same : envelope (TheWorker 2) (TheWorker 3) (Hold (object_id 1 1) (object_id 3 1)) ≡
-        envelope (TheWorker 2) (TheWorker 1) (Finished first_one n rs) = cc in
+    envelope (TheWorker 2) (TheWorker 1) (Finished first_one n rs) = cc in
     let g : Hold (object_id 1 1) (object_id 3 1) ≡ Finished first_one n rs = ap (λ (l : Envelope). l.message) same in
     absurd (cc)
 unborn_unreported n rs (suc (suc k), e) = absurd (cc)

@@ -43,8 +43,7 @@ elsewhere : (g : WorkerContext) (run : Execution) (y : Id) (x : Object) (number 
 elsewhere g run y x number number_is no_dead some not_here =
     let h : WorkerContext = with_phase g run (Waits y None) in
     let first = found x.locations some not_here in
-    subst (λ o. Fetches g.me g.worker.node y number (looks_elsewhere_by h y x o)) (sym (ap (λ ds. find (λ i. not (has ds i)) x.locations) no_dead ∙ first.1))
-    (
+    subst (λ o. Fetches g.me g.worker.node y number (looks_elsewhere_by h y x o)) (sym (ap (λ ds. find (λ i. not (has ds i)) x.locations) no_dead ∙ first.1)) (
       first.0,
       first.2,
       subst (λ i. Among (envelope (TheWorker g.me) (TheNode first.0) (Fetch y i)) (fetches h y (settled_number x) first.0).there.out.envelopes) number_is

@@ -248,8 +248,8 @@ impl<S: ScriptName> Replay<S> {
 
     /// Applies the events of a recorded history, one after the other, each from its seat; with the first commit of a job comes what was done on it.
     ///
-    /// It stops with `WrongJob` behind the first claim that gives another job than the history says, with `NoMemory` where an event finds no memory, and
-    /// with `TooLong` before event 100,001.
+    /// It stops with `WrongJob` behind the first claim that gives another job than the history says, with `NoMemory` where an event, its job, or a list of
+    /// the replay's own finds no memory, and with `TooLong` before event 100,001. Behind `NoMemory` it is as with `play`.
     pub fn play_history(
         &mut self,
         alloc: Global,

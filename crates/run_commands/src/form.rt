@@ -30,7 +30,8 @@ use summary_text::summary_text;
 use timeline::timeline_json;
 use why_text::why_text;
 
-/// What is written of a run. Those behind the third are of docs/reading-a-log.md and docs/state.md; with `Contents::Cut` their long lists are cut.
+/// What is written of a run. Those behind the third are of docs/reading-a-log.md and docs/state.md, and the limit of docs/refusals.md; with `Contents::Cut` the
+/// long lists of those that have any are cut.
 #[derive(Clone, Copy, PartialEq, Eq, Debug)]
 pub enum Form {
     /// Its report, in lines.

@@ -1,4 +1,4 @@
-// What an event counts in a book.
+// Four numbers for a book, by which it grows.
 
 /// Four numbers for a book.
 #[derive(Clone, Copy, Debug, PartialEq, Eq)]

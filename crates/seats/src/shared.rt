@@ -1,4 +1,4 @@
-// A run under a lock, with the books of four ledgers.
+// A run under a lock, with the ledgers of its seats: four of all, and four further ones of the watched seat.
 
 ghost use Rattle.std.specs.Prelude.{◌≡◌, ◌≤◌, ◌<◌, true, IfOk, IfErr, IsOk, Some, length};
 ghost use Rattle.books.specs.SeatTotals.{seat_totals};

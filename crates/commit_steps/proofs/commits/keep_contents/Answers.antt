@@ -14,7 +14,7 @@ loop-i-preserved c =
     let it = c.index-contents-i.result in
     let parts : drop i cs ≡ it ∷ drop (i + 1) cs = drop_or cs i it it c.loop-i-test.true c.index-contents-i.is in
     ap (λ h. keeps_contents h (past o (i + 1)) n (drop (i + 1) cs))
-    (c.in_ok-keep_content.ensures ∙ ap (λ p. keeps_content c.loop-i.here p n it) c.in_ok-result.ensures)
+    (c.in_ok-keep_content.ensures ∙ ap (λ p. keeps_content c.loop-i.here p n it) c.in_ok-result.ensures.object)
     ∙ next_kept c.loop-i.here o i n it (drop (i + 1) cs)
     ∙ sym (ap (keeps_contents c.loop-i.here (past o i) n) parts)
     ∙ c.loop-i.invariant

@@ -21,7 +21,7 @@ FILE_WORDS = ("script", "events")
 VALUES = {"--to": ("dask", "ray"), "--of": ("kill", "notice", "kill-node", "lose", "evict")}
 LISTED = ("--of",)
 STATUS = [
-    ("0", "A script is in order; main ended with a value; no fault was found that main doesn't survive; what was asked for is written, by explain, export, migrate and state."),
+    ("0", "A script is in order; main ended with a value; no fault was found that main doesn't survive; what was asked for is written, by explain, export and migrate."),
     ("1", "Main ended with a trap; or something was refused, with --so-far too; or a file beside the report could not be written; or a word of the command line is at fault; or help or the version was asked for."),
     ("2", "Main ended with a fault, or is open; a fault was found that main doesn't survive."),
 ]

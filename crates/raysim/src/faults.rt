@@ -2,7 +2,7 @@
 
 use crate::heads::tell_misfits;
 use crate::inputs;
-use crate::inputs::{ReadEvents, first_bytes, read_script_file};
+use crate::inputs::{ReadEvents, read_script_file, shown_bytes};
 use crate::life::{Asked, TrialLife};
 use crate::limits::SETTLED;
 use crate::reasons::{Course, Known, List};
@@ -128,7 +128,7 @@ fn read_texts<R: Files + Eprint + AllocGlobal>(rt: &R, trial: &FaultsCall<'_>) -
             front,
         }),
         Err(stop) => {
-            let shown = shown_bytes(rt, trial);
+            let shown = shown_bytes(rt, trial.events, trial.explain);
             tell(
                 rt,
                 stop,
@@ -136,14 +136,6 @@ fn read_texts<R: Files + Eprint + AllocGlobal>(rt: &R, trial: &FaultsCall<'_>) -
             );
             None
         }
-    }
-}
-
-/// What is shown of the event file, if that is asked for.
-fn shown_bytes<R: Files + AllocGlobal>(rt: &R, trial: &FaultsCall<'_>) -> Vec<u8> {
-    match trial.events {
-        Some(path) if trial.explain => first_bytes(rt, path),
-        _ => Vec::new(rt.alloc()),
     }
 }
 

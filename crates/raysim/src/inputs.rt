@@ -88,8 +88,16 @@ pub fn read_plan<'a, R: Files + AllocGlobal>(
     }
 }
 
+/// What is shown of a file that was refused, if that is asked for and there is one.
+pub fn shown_bytes<R: Files + AllocGlobal>(rt: &R, path: Option<&str>, explain: bool) -> Vec<u8> {
+    match path {
+        Some(path) if explain => first_bytes(rt, path),
+        _ => Vec::new(rt.alloc()),
+    }
+}
+
 /// The first bytes of a file that was refused, to show the line at fault: none where it is no file that can be read once more.
-pub fn first_bytes<R: Files + AllocGlobal>(rt: &R, path: &str) -> Vec<u8> {
+fn first_bytes<R: Files + AllocGlobal>(rt: &R, path: &str) -> Vec<u8> {
     match fs::metadata(rt, path) {
         Ok(found) if found.is_file() => {}
         _ => return Vec::new(rt.alloc()),

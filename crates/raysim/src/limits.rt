@@ -1,17 +1,15 @@
 // Runs that are stopped by a limit.
 
 use crate::reasons::{Course, Known};
-use crate::told::{Printed, stopped};
+use crate::told::{Printed, print_bytes, stopped};
 use raysim_calls::Views;
-use raysim_commands::{CommandRefusal, Form, SoFar, Tracked, put_all, run_so_far, sim_so_far};
-use raysim_files::WithError;
-use std::io;
+use raysim_commands::{CommandRefusal, Form, SoFar, run_so_far, sim_so_far};
 
 /// The limits that a run may meet, where it isn't known which one it met.
 const POSSIBLE: &str =
     "1,024 workers in all, 1,000,000 objects, or 64 nodes: the next event would have passed one of them";
 
-/// The list of a run that is settled.
+/// The events of a run that goes on to its end by itself.
 pub const SETTLED: &[u8] = b"settle\n";
 
 const FEWER_OF_EACH: &str =
@@ -161,11 +159,5 @@ fn print_found<R: Print>(rt: &R, found: Result<SoFar, CommandRefusal>) -> Printe
             };
         }
     };
-    let mut output = WithError::new(io::writer(rt));
-    let done = match put_all(&mut Tracked::writer(&mut output), so_far.text.as_bytes()) {
-        Ok(()) => Ok(so_far.status),
-        Err(failure) => Err(CommandRefusal::Failed(failure)),
-    };
-    let error = output.error();
-    Printed { done, error }
+    print_bytes(rt, so_far.text.as_bytes(), Ok(so_far.status))
 }

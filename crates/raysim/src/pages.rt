@@ -7,9 +7,6 @@ use raysim_calls::Views;
 use raysim_commands::{Cluster, CommandRefusal, Tracked, page};
 use std::rt::Files;
 
-/// The events of a run that goes on to its end by itself.
-pub const TO_ITS_END: &[u8] = b"settle\n";
-
 /// Does the run once more by its events, and writes its page, if one is asked for; says whether it is out.
 pub fn is_page_written<R: Files + Eprint + AllocGlobal>(
     rt: &R,

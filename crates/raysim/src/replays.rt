@@ -1,7 +1,7 @@
 // Commands over a script and an event file.
 
 use crate::heads::tell_misfits;
-use crate::inputs::{ReadEvents, first_bytes, read_events, read_plain_events, read_script_file};
+use crate::inputs::{ReadEvents, read_events, read_plain_events, read_script_file, shown_bytes};
 use crate::limits::print_so_far;
 use crate::pages::is_page_written;
 use crate::reasons::{Course, Known, List};
@@ -261,11 +261,7 @@ fn read_texts<R: Files + Eprint + AllocGlobal>(
             front,
         }),
         Err(stop) => {
-            let shown = if replayed.explain {
-                first_bytes(rt, replayed.events)
-            } else {
-                Vec::new(rt.alloc())
-            };
+            let shown = shown_bytes(rt, Some(replayed.events), replayed.explain);
             tell(
                 rt,
                 stop,

@@ -2,8 +2,8 @@
 
 use crate::inputs::read_script_file;
 use crate::life::{Asked, Life};
-use crate::limits::print_so_far;
-use crate::pages::{TO_ITS_END, is_page_written};
+use crate::limits::{SETTLED, print_so_far};
+use crate::pages::is_page_written;
 use crate::reasons::{Course, Known};
 use crate::told::{Printed, tell, tell_beside};
 use crate::traps::with_trap_of_run;
@@ -154,7 +154,7 @@ fn are_written<R: Files + Eprint + AllocGlobal>(
     };
     let timeline = is_written(rt, *cluster, text, &views.timeline(), report);
     let lineage = is_written(rt, *cluster, text, &views.lineage(), report);
-    let page = is_page_written(rt, text, TO_ITS_END, *cluster, views, report);
+    let page = is_page_written(rt, text, SETTLED, *cluster, views, report);
     timeline && lineage && page
 }
 

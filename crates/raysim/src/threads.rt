@@ -4,18 +4,16 @@ ghost use Rattle.raysim_options.specs.Reads.{AreThreads};
 
 use crate::heads::tell_length;
 use crate::inputs;
-use crate::inputs::{first_bytes, read_script_file};
+use crate::inputs::{read_script_file, shown_bytes};
 use crate::life::{Asked, SharedLife};
 use crate::reasons::{Course, Known, List};
 use crate::replays::{Texts, are_written};
-use crate::told::{Printed, Stop, stopped, tell, tell_beside};
+use crate::told::{Stop, print_bytes, stopped, tell, tell_beside};
 use crate::views::{in_memory, write_done};
 use raysim_calls::{ReplayCall, ThreadsCall};
-use raysim_commands::{CommandRefusal, Tracked, put_all, run_threaded};
-use raysim_files::WithError;
+use raysim_commands::{CommandRefusal, Tracked, run_threaded};
 use refusal_reasons::ListKind;
 use run_heads::headed;
-use std::io;
 use std::process::ExitCode;
 use std::rt::{Clock, Files};
 use std::sync::Wait;
@@ -48,7 +46,7 @@ pub fn over_threads<R: Files + Print + Eprint + AllocGlobal + Threads + Wait + C
     let plan = match read_plan(rt, run, script.as_slice()) {
         Ok(plan) => plan,
         Err(stop) => {
-            let shown = shown_bytes(rt, run);
+            let shown = shown_bytes(rt, run.plan, run.drive.explain);
             tell(
                 rt,
                 stop,
@@ -83,14 +81,6 @@ fn known_of<'a, 'b>(run: &ThreadsCall<'a>, text: &'b [u8], plan: &'b [u8]) -> Kn
         text,
         list,
         course: Some(Course::OnThreads),
-    }
-}
-
-/// What is shown of the plan, if that is asked for.
-fn shown_bytes<R: Files + AllocGlobal>(rt: &R, run: &ThreadsCall<'_>) -> Vec<u8> {
-    match run.plan {
-        Some(path) if run.drive.explain => first_bytes(rt, path),
-        _ => Vec::new(rt.alloc()),
     }
 }
 
@@ -142,17 +132,6 @@ fn run_in_memory<'a, R: Eprint + AllocGlobal + Threads + Wait + Clock + Sync>(
     }
 }
 
-/// Prints the report; the status is that of the run where all of it is out.
-fn print_report<R: Print>(rt: &R, report: &[u8], status: u8) -> Printed {
-    let mut output = WithError::new(io::writer(rt));
-    let done = match put_all(&mut Tracked::writer(&mut output), report) {
-        Ok(()) => Ok(status),
-        Err(failure) => Err(CommandRefusal::Failed(failure)),
-    };
-    let error = output.error();
-    Printed { done, error }
-}
-
 /// Writes history, report and views, and says with which status the program ends.
 fn write_all<R: Files + Print + Eprint + AllocGlobal>(
     rt: &R,
@@ -162,16 +141,17 @@ fn write_all<R: Files + Print + Eprint + AllocGlobal>(
 ) -> ExitCode {
     let events = unwritten.history;
     let history = keep_history(rt, run, script.as_slice(), events.as_slice());
-    let printed = print_report(rt, unwritten.report.as_slice(), unwritten.status);
+    let printed = print_bytes(rt, unwritten.report.as_slice(), Ok(unwritten.status));
     if let Some(stop) = printed.stop() {
         stopped(rt, stop);
     }
-    if let Err(stop) = history {
-        let path = run.history.unwrap_or("");
-        tell_beside(rt, stop, &Known::nothing(), path, &printed.done);
-    }
-    if let Some(path) = run.history {
-        tell_length(rt, path, events.as_slice());
+    match (history, run.history) {
+        (Ok(()), Some(path)) => tell_length(rt, path, events.as_slice()),
+        (Ok(()), None) => {}
+        (Err(stop), path) => {
+            let path = path.unwrap_or("");
+            tell_beside(rt, stop, &Known::nothing(), path, &printed.done);
+        }
     }
     let replayed = ReplayCall {
         script: run.drive.script,

@@ -1,8 +1,9 @@
 // What is told on standard error, and explanations. Where that can't be written either, nothing is left to tell it to.
 
 use crate::reasons::{Known, tell_reason};
-use raysim_commands::{CommandRefusal, Failure, exit_status};
+use raysim_commands::{CommandRefusal, Failure, Tracked, exit_status, put_all};
 use raysim_explain::RefusalCause;
+use raysim_files::WithError;
 use refusal_reasons::{Ending, ListKind, NearNames, refusal_named};
 use std::fmt::Display;
 use std::io;
@@ -115,6 +116,17 @@ impl Printed {
     pub fn ending(&self) -> ExitCode {
         ExitCode::from(exit_status(&self.done))
     }
+}
+
+/// Prints a text; the status is the one given, where all of it is out.
+pub fn print_bytes<R: Print>(rt: &R, text: &[u8], status: Result<u8, CommandRefusal>) -> Printed {
+    let mut output = WithError::new(io::writer(rt));
+    let done = match put_all(&mut Tracked::writer(&mut output), text) {
+        Ok(()) => status,
+        Err(failure) => Err(CommandRefusal::Failed(failure)),
+    };
+    let error = output.error();
+    Printed { done, error }
 }
 
 /// Says why there are no words: want of memory, or a word that is no text.

@@ -1,11 +1,7 @@
 // In which place of the script the trap comes about of which `why` tells.
 
-use crate::told::Printed;
-use raysim_commands::{
-    Cluster, CommandRefusal, Form, Tracked, TrapAsked, put_all, run_trap, sim_trap, trap_asked,
-};
-use raysim_files::WithError;
-use std::io;
+use crate::told::{Printed, print_bytes};
+use raysim_commands::{Cluster, CommandRefusal, Form, TrapAsked, run_trap, sim_trap, trap_asked};
 
 /// The status of a run in which main ended with a trap.
 const TRAPPED: u8 = 1;
@@ -68,11 +64,5 @@ fn print_below<R: Print>(
             };
         }
     };
-    let mut output = WithError::new(io::writer(rt));
-    let done = match put_all(&mut Tracked::writer(&mut output), text.as_bytes()) {
-        Ok(()) => printed.done,
-        Err(failure) => Err(CommandRefusal::Failed(failure)),
-    };
-    let error = output.error();
-    Printed { done, error }
+    print_bytes(rt, text.as_bytes(), printed.done)
 }

@@ -1,5 +1,5 @@
 -- A run beside a plan takes its lines when they are due.
-use Rattle.std.proofs.Common.{◌≡◌, ◌⊎◌, ◌≤◌, inl, inr, ℕ, zero, suc, List, [], ◌∷◌, ◌++◌, Option, refl, sym, ap, ◌∙◌, subst, arith, append_assoc}
+use Rattle.std.proofs.Common.{◌≡◌, ◌⊎◌, ◌≤◌, inl, inr, ℕ, zero, suc, List, [], ◌∷◌, ◌++◌, Option, None, refl, sym, ap, ◌∙◌, subst, arith, append_assoc}
 use Rattle.std.specs.Prelude.{Bool, true, false}
 use Rattle.std.proofs.lemmas.List.{append_cancel_left}
 use Rattle.meaning.specs.Syntax.{Script}
@@ -108,12 +108,12 @@ no_join_first n slots t seat after (inr (inl (halted, same))) i = not_empty seat
 no_join_first n slots t seat after (inr (inr (e, from, es, other, is))) i =
     other (same_event e from seat es after (append_cancel_left opening (In e from ∷ es) (In Join seat ∷ after) (sym is ∙ i)))
 
-on_cluster : (script : Script) (nodes slots : ℕ) → 1 ≤ nodes → (r : RunState) → IsRuledRun script false late_join (record { nodes = nodes; slots = slots }) r →
+on_cluster : (script : Script) (nodes slots : ℕ) → 1 ≤ nodes → (r : RunState) → IsRuledRun script false late_join (record { nodes = nodes; slots = slots }) None r →
     (seat : ℕ) (after : List Entry) → r.log ≡ opening ++ In Join seat ∷ after → ⊥
 on_cluster script zero slots some r ruled seat after i = omega (arith, some)
 on_cluster script (suc n) slots some r ruled seat after i =
     let way = ruled refl in
-    no_join_first n slots way.0 seat after (begun_in script n slots way.2.0 way.0 way.2.1) (ap (λ (x : RunState). x.log) way.1 ∙ i)
+    no_join_first n slots way.0 seat after (begun_in script n slots way.3.0 way.0 way.3.1) (ap (λ (x : RunState). x.log) way.1 ∙ i)
 
 pub plans_are_true : PlansAreTrue
 plans_are_true script size cluster r over seat after i = on_cluster script size.nodes size.slots cluster.a_node r over.ruled seat after i

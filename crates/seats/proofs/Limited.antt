@@ -12,7 +12,8 @@ use Rattle.seats.specs.Ruled.{IsRuledRun}
 
 pub is_at_limit : (script : Script) (is_open : Bool) (plan named : List PlanLine) (size : Size) (r : RunState) (taken : ℕ) (g : Option Refusal) →
     g ≡ Some refusals.Limit → named ≡ plan → Stands (first_events taken named) r.log g → KeepsToThem is_open (first_events taken named) r.log g →
-    r.first_nodes ≡ size.nodes → Comes script (first_state size.nodes size.slots) r → IsRuledRun script is_open plan size r → IsAtLimit script is_open plan size r
+    r.first_nodes ≡ size.nodes → Comes script (first_state size.nodes size.slots) r → IsRuledRun script is_open plan size (Some refusals.Limit) r →
+    IsAtLimit script is_open plan size r
 is_at_limit script is_open plan named size r taken g limited same stands keeps nodes came ruled =
     let s : Stands (first_events taken plan) r.log (Some refusals.Limit) =
     subst (λ p. Stands (first_events taken p) r.log (Some refusals.Limit)) same (subst (Stands (first_events taken named) r.log) limited stands) in

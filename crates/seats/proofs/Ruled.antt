@@ -94,8 +94,8 @@ fresh_ruled none_came script is_open plan lines size r out reached fresh sized e
 -- ---- a run that ended
 
 pub ruled_run : (script : Script) (is_open : Bool) (plan : List PlanLine) (size : Size) (t : TurnState) (r : RunState) (g : Option Refusal) → t.run ≡ r →
-    g ≡ None ⊎ g ≡ Some refusals.Limit → StaysRuled script is_open plan size t g → IsRuledRun script is_open plan size r
-ruled_run script is_open plan size t r None same which way = λ closed. (t, same, way closed)
-ruled_run script is_open plan size t r (Some refusals.Limit) same which way = λ closed. (t, same, way closed)
-ruled_run script is_open plan size t r (Some x) same (inl bad) way = absurd cc
-ruled_run script is_open plan size t r (Some x) same (inr bad) way = absurd cc
+    t.given_up ≡ g → g ≡ None ⊎ g ≡ Some refusals.Limit → StaysRuled script is_open plan size t g → IsRuledRun script is_open plan size g r
+ruled_run script is_open plan size t r None same given which way = λ closed. (t, same, given, way closed)
+ruled_run script is_open plan size t r (Some refusals.Limit) same given which way = λ closed. (t, same, given, way closed)
+ruled_run script is_open plan size t r (Some x) same given (inl bad) way = absurd cc
+ruled_run script is_open plan size t r (Some x) same given (inr bad) way = absurd cc

@@ -65,8 +65,8 @@ pub record IsOverBeside (script : Script) (is_open : Bool) (plan : List PlanLine
   pub within_limits : WasLimited r.log → ⊥
   -- and that came of events, one after the other, each with what was handed in, true of its job
   pub came : Comes script (first_state size.nodes size.slots) r
-  -- each of which, unless the run is open, was the one that a turn named, or handed in what was done on a job
-  pub ruled : IsRuledRun script is_open plan size r
+  -- each of which, unless the run is open, was the one that a turn named, or handed in what was done on a job, and none gave the run up
+  pub ruled : IsRuledRun script is_open plan size None r
 
 -- and no others
 abbrev pub IsOver : Script → List PlanLine → Size → RunState → Type 0
@@ -81,8 +81,8 @@ pub record IsAtLimit (script : Script) (is_open : Bool) (plan : List PlanLine) (
   pub on_nodes : r.first_nodes ≡ size.nodes
   -- and it came of events, one after the other, each with what was handed in, true of its job
   pub came : Comes script (first_state size.nodes size.slots) r
-  -- each of which, unless the run is open, was the one that a turn named, or handed in what was done on a job
-  pub ruled : IsRuledRun script is_open plan size r
+  -- each of which, unless the run is open, was the one that a turn named, or handed in what was done on a job, and for the limit the run was given up
+  pub ruled : IsRuledRun script is_open plan size (Some refusals.Limit) r
 
 -- how a run of the script beside the plan on such a cluster ends
 abbrev pub HasEnded : {X : Type 0} → Script → Bool → List PlanLine → Size → Ended X → Type 0

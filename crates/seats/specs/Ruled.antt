@@ -42,9 +42,11 @@ Ruled script first now = (n : ℕ) × RuledIn script n first now
 abbrev pub first_turn : List PlanLine → Size → TurnState
 first_turn plan size = record { run = first_state size.nodes size.slots; plan = plan; taken = 0; out = []; given_up = None }
 
--- unless it is open, the run came of such events alone: so each line of the plan was taken when it was due, or nothing else was left to do
-abbrev pub IsRuledRun : Script → Bool → List PlanLine → Size → RunState → Type 0
-IsRuledRun script is_open plan size r = is_open ≡ false → (t : TurnState) × (t.run ≡ r) × Ruled script (first_turn plan size) t
+-- unless it is open, the run came of such events alone, and was given up for that or not: so each line of the plan was taken when it was due, or nothing
+-- else was left to do
+abbrev pub IsRuledRun : Script → Bool → List PlanLine → Size → Option Refusal → RunState → Type 0
+IsRuledRun script is_open plan size given_up r =
+    is_open ≡ false → (t : TurnState) × (t.run ≡ r) × (t.given_up ≡ given_up) × Ruled script (first_turn plan size) t
 
 -- so it did, unless it is given up for want of memory
 abbrev pub StaysRuled : Script → Bool → List PlanLine → Size → TurnState → Option Refusal → Type 0

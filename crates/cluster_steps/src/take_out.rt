@@ -1,9 +1,10 @@
 // Nodes and workers that are taken out.
 
-ghost use Rattle.std.specs.Prelude.{◌≡◌, ◌<◌, ◌+◌, [], IfSome, IfNone, Some, None, length, slice_get, slice_set};
+ghost use Rattle.std.specs.Prelude.{◌≡◌, ◌<◌, ◌+◌, [], IfOk, IfSome, IfNone, OnErr, OnOk, Some, None, length, slice_get, slice_set};
 ghost use Rattle.protocol.specs.Nodes.{new_node, no_out};
 ghost use Rattle.protocol.specs.Tables.{new_worker};
 ghost use Rattle.protocol.specs.Cluster.{node_at, there, worker_at};
+ghost use Rattle.cluster_steps.specs.Emptied.{nothing_here};
 
 use boxed_value::Boxed;
 use ids::{NodeId, WorkerId};
@@ -169,7 +170,9 @@ pub fn enter(
 const MESSAGES: usize = 2048;
 
 /// A context with nothing in it, in which workers and their nodes come into events.
-pub fn blank_context(alloc: Global) -> Result<WorkerContext, AllocError> {
+pub fn blank_context(alloc: Global) -> Result<WorkerContext, AllocError>
+    ensures { IfOk result (λ here. here ≡ nothing_here) }
+{
     let mut out = no_out(alloc);
     out.envelopes.items.reserve(MESSAGES)?;
     Ok(WorkerContext {
@@ -187,10 +190,33 @@ pub fn blank_context(alloc: Global) -> Result<WorkerContext, AllocError> {
 }
 
 /// Lets go of all that an event left in the context.
-pub fn clear_context(alloc: Global, here: &mut WorkerContext) {
+pub fn clear_context(alloc: Global, here: &mut WorkerContext)
+    ensures { here.new ≡ nothing_here }
+{
+    here.me = WorkerId(0);
     *here.worker = new_worker(alloc, NodeId(0));
+    here.there.number = NodeId(0);
+    here.there.nodes = 0;
+    here.there.workers = 0;
+    here.there.opened = 0;
     *here.there.node = new_node(alloc, 0);
     here.there.out = no_out(alloc);
+}
+
+/// What came of a step. Where it found no memory, and may have left half of what it does, nothing is left of the context.
+pub fn settle_step(
+    alloc: Global,
+    here: &mut WorkerContext,
+    came: Result<(), AllocError>,
+) -> Result<(), AllocError>
+    ensures told { result ≡ came }
+    ensures done { OnOk result (here.new ≡ here.old) }
+    ensures err { OnErr result (here.new ≡ nothing_here) }
+{
+    if came.is_err() {
+        clear_context(alloc, here);
+    }
+    came
 }
 
 /// Nothing is logged.

@@ -4,6 +4,8 @@
 mod replayed;
 mod trying;
 
-pub use protocol_board::{Board, Cluster, Core, Replay, ReplayStop, Reply, drive, no_numbers};
+pub use protocol_board::{
+    Board, Cluster, Core, Replay, ReplayStop, Reply, drive, is_no_memory, no_numbers,
+};
 pub use replayed::{Replayed, replay_lines};
 pub use trying::{TrialWatcher, try_lists};

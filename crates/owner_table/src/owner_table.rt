@@ -1,6 +1,7 @@
 // What may happen to a worker's own objects.
 
-ghost use Rattle.std.specs.Prelude.{◌≡◌, OnOk};
+ghost use Rattle.std.specs.Prelude.{◌≡◌, OnErr, OnOk};
+ghost use Rattle.cluster_steps.specs.Emptied.{nothing_here};
 ghost use Rattle.protocol.specs.Asking.{given_reached};
 ghost use Rattle.protocol.specs.Commits.{bears_all};
 ghost use Rattle.protocol.specs.Ends.{failed_reached, finished_reached};
@@ -8,6 +9,7 @@ ghost use Rattle.protocol.specs.Notices.{notice_node_step, notice_step};
 ghost use Rattle.protocol.specs.Locations.{adds_locations, missing_reached, where_reached};
 ghost use Rattle.protocol.specs.Releases.{release_step};
 
+use cluster_steps::settle_step;
 use commit_steps::bear_all;
 use commit_steps::owner_steps::{
     failed_reached, finished_reached, given_reached, missing_reached, where_reached,
@@ -21,8 +23,8 @@ use values::Fault;
 use worker_acts::{notice_node_step, notice_step};
 use worker_steps::{add_locations_of, release_all};
 
-/// A worker's own objects in an event: what is told of them, and what is done then. An error is want of memory; then nothing is said of
-/// the tables.
+/// A worker's own objects in an event: what is told of them, and what is done then. An error is want of memory; then nothing is left of
+/// the worker and its node, since the step may have been half done.
 pub trait OwnerTable {
     /// The attempt bears what these births make: each object enters the table and holds the ids in its birth; a put value is stored, and of
     /// a task, which may make several objects, the first attempt is asked for.
@@ -65,6 +67,7 @@ pub trait OwnerTable {
     /// Copies of the object's content of that number are at these nodes.
     fn located(
         &mut self,
+        alloc: Global,
         object: ObjectId,
         number: u32,
         nodes: &Seq<NodeId>,
@@ -105,9 +108,11 @@ impl OwnerTable for WorkerContext {
         bearer: AttemptId,
         births: &Seq<SharedBirth>,
     ) -> Result<(), AllocError>
-        ensures { OnOk result (self.new ≡ bears_all self.old bearer births.now) }
+        ensures done { OnOk result (self.new ≡ bears_all self.old bearer births.now) }
+        ensures err { OnErr result (self.new ≡ nothing_here) }
     {
-        bear_all(alloc, self, bearer, births)
+        let came = bear_all(alloc, self, bearer, births);
+        settle_step(alloc, self, came)
     }
 
     fn begun(
@@ -118,9 +123,11 @@ impl OwnerTable for WorkerContext {
         t: u32,
         worker: WorkerId,
     ) -> Result<(), AllocError>
-        ensures { OnOk result (self.new ≡ given_reached self.old node attempt t worker) }
+        ensures done { OnOk result (self.new ≡ given_reached self.old node attempt t worker) }
+        ensures err { OnErr result (self.new ≡ nothing_here) }
     {
-        given_reached(alloc, self, node, attempt, t, worker)
+        let came = given_reached(alloc, self, node, attempt, t, worker);
+        settle_step(alloc, self, came)
     }
 
     fn accepted(
@@ -131,9 +138,11 @@ impl OwnerTable for WorkerContext {
         node: NodeId,
         results: &SmallList<EndedResult>,
     ) -> Result<(), AllocError>
-        ensures { OnOk result (self.new ≡ finished_reached self.old worker attempt node results.now) }
+        ensures done { OnOk result (self.new ≡ finished_reached self.old worker attempt node results.now) }
+        ensures err { OnErr result (self.new ≡ nothing_here) }
     {
-        finished_reached(alloc, self, worker, attempt, node, results)
+        let came = finished_reached(alloc, self, worker, attempt, node, results);
+        settle_step(alloc, self, came)
     }
 
     fn failed(
@@ -143,20 +152,25 @@ impl OwnerTable for WorkerContext {
         attempt: AttemptId,
         why: Fault,
     ) -> Result<(), AllocError>
-        ensures { OnOk result (self.new ≡ failed_reached self.old worker attempt why) }
+        ensures done { OnOk result (self.new ≡ failed_reached self.old worker attempt why) }
+        ensures err { OnErr result (self.new ≡ nothing_here) }
     {
-        failed_reached(alloc, self, worker, attempt, why)
+        let came = failed_reached(alloc, self, worker, attempt, why);
+        settle_step(alloc, self, came)
     }
 
     fn located(
         &mut self,
+        alloc: Global,
         object: ObjectId,
         number: u32,
         nodes: &Seq<NodeId>,
     ) -> Result<(), AllocError>
-        ensures { OnOk result (self.new ≡ adds_locations self.old object number nodes.now) }
+        ensures done { OnOk result (self.new ≡ adds_locations self.old object number nodes.now) }
+        ensures err { OnErr result (self.new ≡ nothing_here) }
     {
-        add_locations_of(self, object, number, nodes)
+        let came = add_locations_of(self, object, number, nodes);
+        settle_step(alloc, self, came)
     }
 
     fn missing(
@@ -167,21 +181,27 @@ impl OwnerTable for WorkerContext {
         number: u32,
         node: NodeId,
     ) -> Result<(), AllocError>
-        ensures { OnOk result (self.new ≡ missing_reached self.old sender.now object number node) }
+        ensures done { OnOk result (self.new ≡ missing_reached self.old sender.now object number node) }
+        ensures err { OnErr result (self.new ≡ nothing_here) }
     {
-        missing_reached(alloc, self, sender, object, number, node)
+        let came = missing_reached(alloc, self, sender, object, number, node);
+        settle_step(alloc, self, came)
     }
 
     fn node_dead(&mut self, alloc: Global, node: NodeId) -> Result<(), AllocError>
-        ensures { OnOk result (self.new ≡ notice_node_step self.old node) }
+        ensures done { OnOk result (self.new ≡ notice_node_step self.old node) }
+        ensures err { OnErr result (self.new ≡ nothing_here) }
     {
-        notice_node_step(alloc, self, node)
+        let came = notice_node_step(alloc, self, node);
+        settle_step(alloc, self, came)
     }
 
     fn worker_dead(&mut self, alloc: Global, worker: WorkerId) -> Result<(), AllocError>
-        ensures { OnOk result (self.new ≡ notice_step self.old worker) }
+        ensures done { OnOk result (self.new ≡ notice_step self.old worker) }
+        ensures err { OnErr result (self.new ≡ nothing_here) }
     {
-        notice_step(alloc, self, worker)
+        let came = notice_step(alloc, self, worker);
+        settle_step(alloc, self, came)
     }
 
     fn answer_where(
@@ -190,14 +210,18 @@ impl OwnerTable for WorkerContext {
         worker: WorkerId,
         object: ObjectId,
     ) -> Result<(), AllocError>
-        ensures { OnOk result (self.new ≡ where_reached self.old worker object) }
+        ensures done { OnOk result (self.new ≡ where_reached self.old worker object) }
+        ensures err { OnErr result (self.new ≡ nothing_here) }
     {
-        where_reached(alloc, self, worker, object)
+        let came = where_reached(alloc, self, worker, object);
+        settle_step(alloc, self, came)
     }
 
     fn release(&mut self, alloc: Global) -> Result<(), AllocError>
-        ensures { OnOk result (self.new ≡ release_step self.old) }
+        ensures done { OnOk result (self.new ≡ release_step self.old) }
+        ensures err { OnErr result (self.new ≡ nothing_here) }
     {
-        release_all(alloc, self)
+        let came = release_all(alloc, self);
+        settle_step(alloc, self, came)
     }
 }

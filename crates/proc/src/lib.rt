@@ -4,5 +4,5 @@
 mod proc;
 
 pub use crate::proc::Proc;
-pub use protocol_data::{Endpoint, Message, Outbox, Outcomes, WorkerContext};
-pub use worker_acts::{Act, take_part};
+pub use protocol_data::{Endpoint, Envelope, Message, Outbox, Outcomes, WorkerContext};
+pub use worker_acts::Act;

@@ -1,19 +1,24 @@
 // The steps of a worker as a trait, with the pure step that each equals.
 
-ghost use Rattle.std.specs.Prelude.{◌≡◌, OnOk};
+ghost use Rattle.std.specs.Prelude.{◌≡◌, OnErr, OnOk};
+ghost use Rattle.cluster_steps.specs.Emptied.{nothing_here};
 ghost use Rattle.protocol.specs.Commits.{claim_step, commit_step};
 ghost use Rattle.protocol.specs.Deliveries.{reached};
 ghost use Rattle.protocol.specs.Notices.{notice_node_step, notice_step};
+ghost use Rattle.protocol.specs.Releases.{release_step};
 ghost use Rattle.protocol.specs.Ticks.{tick_step};
+ghost use Rattle.worker_acts.specs.Acts.{act_step};
 
+use cluster_steps::settle_step;
 use commit_steps::{claim_step, commit_step};
 use ids::{NodeId, WorkerId};
-use protocol_data::{Endpoint, Message, Outcomes, WorkerContext};
+use protocol_data::{Endpoint, Envelope, Message, Outcomes, WorkerContext};
+use sequence::Seq;
 use std::alloc::{AllocError, Global};
-use worker_acts::{notice_node_step, notice_step, reached, tick_step};
+use worker_acts::{Act, notice_node_step, notice_step, reached, take_part, tick_step};
 
-/// A worker's step in an event, before what nobody can reach any more is released (`take_part` does both). An error is want of memory;
-/// then nothing is said of the tables.
+/// A worker's step in an event, before what nobody can reach any more is released. An error is want of memory; then nothing is left of the
+/// worker and its node, since the step may have been half done.
 pub trait Proc {
     /// A message of that sender reaches the worker; what no rule names is passed over.
     fn deliver(
@@ -37,6 +42,9 @@ pub trait Proc {
 
     /// What was done on its attempt's job is committed.
     fn commit(&mut self, alloc: Global, outcomes: &mut Outcomes) -> Result<(), AllocError>;
+
+    /// Any of these, where these messages were sent so far, and then what nobody can reach any more is released.
+    fn act(&mut self, alloc: Global, sent: &Seq<Envelope>, act: &mut Act) -> Result<(), AllocError>;
 }
 
 impl Proc for WorkerContext {
@@ -46,27 +54,35 @@ impl Proc for WorkerContext {
         sender: &Endpoint,
         message: &Message,
     ) -> Result<(), AllocError>
-        ensures { OnOk result (self.new ≡ reached self.old sender.now message.now) }
+        ensures done { OnOk result (self.new ≡ reached self.old sender.now message.now) }
+        ensures err { OnErr result (self.new ≡ nothing_here) }
     {
-        reached(alloc, self, sender, message)
+        let came = reached(alloc, self, sender, message);
+        settle_step(alloc, self, came)
     }
 
     fn tick(&mut self, alloc: Global) -> Result<(), AllocError>
-        ensures { OnOk result (self.new ≡ tick_step self.old) }
+        ensures done { OnOk result (self.new ≡ tick_step self.old) }
+        ensures err { OnErr result (self.new ≡ nothing_here) }
     {
-        tick_step(alloc, self)
+        let came = tick_step(alloc, self);
+        settle_step(alloc, self, came)
     }
 
     fn notice(&mut self, alloc: Global, worker: WorkerId) -> Result<(), AllocError>
-        ensures { OnOk result (self.new ≡ notice_step self.old worker) }
+        ensures done { OnOk result (self.new ≡ notice_step self.old worker) }
+        ensures err { OnErr result (self.new ≡ nothing_here) }
     {
-        notice_step(alloc, self, worker)
+        let came = notice_step(alloc, self, worker);
+        settle_step(alloc, self, came)
     }
 
     fn notice_node(&mut self, alloc: Global, node: NodeId) -> Result<(), AllocError>
-        ensures { OnOk result (self.new ≡ notice_node_step self.old node) }
+        ensures done { OnOk result (self.new ≡ notice_node_step self.old node) }
+        ensures err { OnErr result (self.new ≡ nothing_here) }
     {
-        notice_node_step(alloc, self, node)
+        let came = notice_node_step(alloc, self, node);
+        settle_step(alloc, self, came)
     }
 
     fn claim(&mut self, job: u64)
@@ -76,8 +92,18 @@ impl Proc for WorkerContext {
     }
 
     fn commit(&mut self, alloc: Global, outcomes: &mut Outcomes) -> Result<(), AllocError>
-        ensures { OnOk result (self.new ≡ commit_step self.old outcomes.old) }
+        ensures done { OnOk result (self.new ≡ commit_step self.old outcomes.old) }
+        ensures err { OnErr result (self.new ≡ nothing_here) }
     {
-        commit_step(alloc, self, outcomes)
+        let came = commit_step(alloc, self, outcomes);
+        settle_step(alloc, self, came)
+    }
+
+    fn act(&mut self, alloc: Global, sent: &Seq<Envelope>, act: &mut Act) -> Result<(), AllocError>
+        ensures done { OnOk result (self.new ≡ release_step (act_step sent.now act.old self.old)) }
+        ensures err { OnErr result (self.new ≡ nothing_here) }
+    {
+        let came = take_part(alloc, self, sent, act);
+        settle_step(alloc, self, came)
     }
 }

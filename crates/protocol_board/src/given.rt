@@ -62,7 +62,8 @@ pub fn run_job<S: ScriptName>(
     }
 }
 
-fn is_no_memory(refusal: Refusal) -> bool
+/// Whether it is want of memory.
+pub fn is_no_memory(refusal: Refusal) -> bool
     ensures { result ≡ is_no_memory refusal }
 {
     matches!(refusal, Refusal::NoMemory)

@@ -11,6 +11,7 @@ mod stopped;
 
 pub use crate::board::Board;
 pub use driving::drive;
+pub use given::is_no_memory;
 pub use numbers::no_numbers;
 pub use protocol_core::{Cluster, Core, Reply};
 pub use replay::Replay;

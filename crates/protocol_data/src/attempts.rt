@@ -1,6 +1,6 @@
 // The attempts that a worker ever began, with an index that tells what it surely never began.
 
-ghost use Rattle.std.specs.Prelude.{◌≡◌, ◌&&◌, ◌==◌, ◌++◌, ◌∷◌, [], IfOk, OnOk, nat_lt, true};
+ghost use Rattle.std.specs.Prelude.{◌≡◌, ◌&&◌, ◌==◌, ◌++◌, ◌∷◌, [], IfOk, OnErr, OnOk, nat_lt, true};
 ghost use Rattle.std.specs.List.{list_any};
 ghost use Rattle.event_log.specs.Words.{same_attempt};
 ghost use Rattle.meaning.specs.Values.{Id};
@@ -119,9 +119,10 @@ impl Attempts {
         has_bounded(&self.rows, &self.bounds, attempt)
     }
 
-    /// Adds the attempt at the end. An error is want of memory.
+    /// Adds the attempt at the end. On an error, which is want of memory, the list is as it was.
     pub fn push(&mut self, attempt: AttemptId) -> Result<(), AllocError>
-        ensures { OnOk result (self.new ≡ self.old ++ attempt ∷ []) }
+        ensures ok { OnOk result (self.new ≡ self.old ++ attempt ∷ []) }
+        ensures err { OnErr result (self.new ≡ self.old) }
     {
         let object = made_object(attempt);
         note(&mut self.bounds, object)?;

@@ -29,7 +29,7 @@ pub enum Request<'a> {
     Run(RunOptions<'a>),
     /// Tell what happened in a run.
     Log(LogOptions<'a>),
-    /// Tell why an object of a run is as it is.
+    /// Tell why an object, a worker or a node of a run, or main, is as it is.
     Why(WhyOptions<'a>),
     /// Try a fault at every place of a run.
     Faults(FaultsOptions<'a>),

@@ -10,9 +10,8 @@ ghost use Rattle.run_commands.specs.SoFar.{ExplainsTexts, IsDriven, IsReplaySoFa
 use crate::event_lines::{EventLines, event_lines};
 use crate::form::Form;
 use crate::replays::replayed_so_far;
-use crate::run_stops::is_no_memory;
 use crate::telling::{SoFar, told, told_replay};
-use fault_runs::{Board, Cluster, Core, drive};
+use fault_runs::{Board, Cluster, Core, drive, is_no_memory};
 use log_entries::Refusal;
 use raysim_streams::CommandRefusal;
 use run_watch::Unwatched;

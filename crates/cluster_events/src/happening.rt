@@ -1,6 +1,7 @@
 // One event, where nothing refuses it beforehand.
 
-ghost use Rattle.std.specs.Prelude.{◌≡◌, IfOk, OnOk};
+ghost use Rattle.std.specs.Prelude.{◌≡◌, IfOk, OnErr, OnOk};
+ghost use Rattle.worker_steps.specs.of_contexts.Emptied.{nothing_here, nothing_left};
 ghost use Rattle.step_laws.specs.Limits.{entries_limited, whole_limited};
 ghost use Rattle.cluster_events.specs.Told.{if_taken};
 ghost use Rattle.protocol.specs.Cluster.{worker_does};
@@ -13,6 +14,7 @@ use crate::deliveries::deliver;
 use crate::jobs::{claim, commit};
 use crate::stores::{Loss, lose_at};
 use crate::within_limits::let_worker_act;
+use cluster_steps::or_nothing_left;
 use ids::{NodeId, WorkerId};
 use log_entries::Event;
 use protocol_data::{ClusterState, CommitInput, WorkerContext};
@@ -67,9 +69,9 @@ fn notice_node(
     let_worker_act(alloc, whole, here, worker, &mut Act::LearnNodeDied(dead))
 }
 
-/// What the event makes of the whole, with what is handed in: it is told whether it is taken. The entries that it adds behind its own are left in the
-/// context then; where a limit would be passed it isn't taken, and nothing is changed. After an error nothing is said of the whole.
-pub fn happen(
+/// What the event makes of the whole, with what is handed in: it is told whether it is taken.
+#[inline(always)]
+fn try_event(
     alloc: Global,
     whole: &mut ClusterState,
     here: &mut WorkerContext,
@@ -100,4 +102,22 @@ pub fn happen(
         Event::KillNode(node) => kill_node(alloc, whole, &mut here.there, *node),
         Event::Join => join(alloc, whole, &mut here.there),
     }
+}
+
+/// What the event makes of the whole, with what is handed in: it is told whether it is taken. The entries that it adds behind its own are left in the
+/// context then; where a limit would be passed it isn't taken, and nothing is changed. Where it finds no memory, nothing is left of the run, nor of the
+/// context.
+pub fn happen(
+    alloc: Global,
+    whole: &mut ClusterState,
+    here: &mut WorkerContext,
+    event: &Event,
+    handed: &mut CommitInput,
+) -> Result<bool, AllocError>
+    ensures whole { OnOk result (whole.new ≡ whole_limited whole.old (happens whole.old event.now handed.old)) }
+    ensures entries { IfOk result (λ taken. if_taken taken here.new.there.out.entries ≡ entries_limited (happens whole.old event.now handed.old)) }
+    ensures err { OnErr result ((whole.new ≡ nothing_left) × (here.new ≡ nothing_here)) }
+{
+    let came = try_event(alloc, whole, here, event, handed);
+    or_nothing_left(came, whole, here)
 }

@@ -12,6 +12,6 @@ mod node_events;
 mod stores;
 mod within_limits;
 
-pub use cluster_steps::log_nothing;
+pub use cluster_steps::{log_nothing, or_nothing_left};
 pub use happening::happen;
 pub use jobs::next_job;

@@ -2,13 +2,13 @@
 use Rattle.std.proofs.Common.{◌≡◌, ℕ, ◌+◌, ◌<◌, length, ◌++◌, List, Option, Some, None, sym, ap, ◌∙◌}
 use Rattle.std.specs.Prelude.{slice_get, slice_set}
 use Rattle.number_lists.proofs.Places.{item_there, blank_over}
-use Rattle.protocol.specs.Numbered.{changed_at}
-use Rattle.protocol.specs.Sets.{repeated}
-use Rattle.protocol.specs.Nodes.{Node, NodeContext}
-use Rattle.protocol.specs.Tables.{Worker, new_worker}
-use Rattle.protocol.specs.Steps.{WorkerContext}
-use Rattle.protocol.specs.Releases.{release_step}
-use Rattle.protocol.specs.Cluster.{ClusterState, Transition, after_node, after_worker, here, moved, node_at, worker_at, node_does, node_does_by, there, worker_does, worker_does_at, worker_does_by}
+use Rattle.contexts.specs.of_protocol.Numbered.{changed_at}
+use Rattle.contexts.specs.of_protocol.Sets.{repeated}
+use Rattle.contexts.specs.of_protocol.Nodes.{Node, NodeContext}
+use Rattle.contexts.specs.of_protocol.Tables.{Worker, new_worker}
+use Rattle.contexts.specs.of_protocol.Steps.{WorkerContext}
+use Rattle.contexts.specs.of_protocol.Releases.{release_step}
+use Rattle.contexts.specs.of_protocol.Cluster.{ClusterState, Transition, after_node, after_worker, here, moved, node_at, worker_at, node_does, node_does_by, there, worker_does, worker_does_at, worker_does_by}
 
 abbrev with_nodes : Transition → List Node → Transition
 with_nodes m xs = record m { whole = record m.whole { nodes = xs } }

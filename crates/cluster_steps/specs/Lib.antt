@@ -1,2 +1,1 @@
-pub mod Emptied
 pub mod Reached

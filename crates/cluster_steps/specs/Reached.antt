@@ -1,8 +1,8 @@
 -- What a message does to the node that it reaches.
 use Rattle.std.specs.Prelude.{Option, Some, None}
-use Rattle.protocol.specs.Messages.{Envelope}
-use Rattle.protocol.specs.Nodes.{NodeContext}
-use Rattle.protocol.specs.Slots.{node_reached}
+use Rattle.contexts.specs.of_protocol.Messages.{Envelope}
+use Rattle.contexts.specs.of_protocol.Nodes.{NodeContext}
+use Rattle.contexts.specs.of_protocol.Slots.{node_reached}
 
 -- a message, if there is one, reaches it
 abbrev pub node_received : NodeContext → Option Envelope → NodeContext

@@ -1,15 +1,18 @@
 // Nodes and workers that are put back.
 
-ghost use Rattle.std.specs.Prelude.{◌≡◌, ◌<◌, ◌+◌, ◌++◌, [], OnOk, Some, length, slice_get, slice_set};
-ghost use Rattle.protocol.specs.Numbered.{changed_at};
-ghost use Rattle.protocol.specs.Sets.{repeated};
-ghost use Rattle.protocol.specs.Tables.{new_worker};
-ghost use Rattle.protocol.specs.Cluster.{after_node, after_worker, undelivered};
+ghost use Rattle.std.specs.Prelude.{◌≡◌, ◌<◌, ◌+◌, ◌++◌, [], OnErr, OnOk, Some, length, slice_get, slice_set};
+ghost use Rattle.contexts.specs.Emptied.{nothing_here, nothing_left};
+ghost use Rattle.contexts.specs.of_protocol.Numbered.{changed_at};
+ghost use Rattle.contexts.specs.of_protocol.Sets.{repeated};
+ghost use Rattle.contexts.specs.of_protocol.Tables.{new_worker};
+ghost use Rattle.contexts.specs.of_protocol.Cluster.{after_node, after_worker, undelivered};
 
-use crate::take_out::new_worker;
 use boxed_value::Boxed;
+use contexts::protocol_data::{
+    ClusterState, Envelope, NodeContext, Worker, WorkerContext, Workers,
+};
+use contexts::{new_worker, or_nothing_left};
 use ids::{NodeId, WorkerId};
-use protocol_data::{ClusterState, Envelope, NodeContext, Worker, WorkerContext, Workers};
 use sequence::Seq;
 use std::alloc::{AllocError, Global};
 use std::mem;
@@ -146,6 +149,7 @@ pub fn leave_node(
 
 /// The worker and its node are put back, with what they made, but for the entries: these are left in the context, in which what stood in their places
 /// is again. Whether the worker had something to claim or to commit as it came (`went`) is for the index of those that have, and changes nothing else.
+/// Where this finds no memory, nothing is left of the run, nor of the worker and its node.
 #[inline(always)]
 pub fn leave(
     alloc: Global,
@@ -163,6 +167,7 @@ pub fn leave(
     requires node_number { node ≡ 1 + node_place }
     ensures whole { OnOk result (whole.new ≡ (after_worker whole.old number node here.old).whole) }
     ensures entries { OnOk result (here.new.there.out.entries ≡ (after_worker whole.old number node here.old).out.entries) }
+    ensures err { OnErr result ((whole.new ≡ nothing_left) × (here.new ≡ nothing_here)) }
 {
     put_worker_over(
         &mut whole.workers,
@@ -171,5 +176,6 @@ pub fn leave(
         &mut here.worker,
         went,
     );
-    leave_node(alloc, whole, node_place, node, &mut here.there)
+    let came = leave_node(alloc, whole, node_place, node, &mut here.there);
+    or_nothing_left(came, whole, here)
 }

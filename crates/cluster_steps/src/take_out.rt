@@ -1,69 +1,13 @@
 // Nodes and workers that are taken out.
 
-ghost use Rattle.std.specs.Prelude.{◌≡◌, ◌<◌, ◌+◌, [], IfOk, IfSome, IfNone, OnErr, OnOk, Some, None, length, slice_get, slice_set};
-ghost use Rattle.protocol.specs.Nodes.{new_node, no_out};
-ghost use Rattle.protocol.specs.Tables.{new_worker};
-ghost use Rattle.protocol.specs.Cluster.{node_at, there, worker_at};
-ghost use Rattle.cluster_steps.specs.Emptied.{nothing_here};
+ghost use Rattle.std.specs.Prelude.{◌≡◌, ◌<◌, ◌+◌, [], IfSome, IfNone, Some, None, length, slice_get, slice_set};
+ghost use Rattle.contexts.specs.of_protocol.Cluster.{node_at, there, worker_at};
 
-use boxed_value::Boxed;
+use contexts::protocol_data::{ClusterState, NodeContext, WorkerContext};
 use ids::{NodeId, WorkerId};
 use number_lists::place_of;
-use protocol_data::{
-    Asks, Attempts, ClusterState, Copies, IdleWorkers, Leases, Node, NodeContext, Objects, Outbox,
-    Queue, Scheduler, Secondaries, Store, Worker, WorkerContext,
-};
 use sequence::Seq;
-use std::alloc::{AllocError, Global};
 use std::mem;
-
-/// Nothing was made yet.
-pub fn no_out(alloc: Global) -> Outbox
-    ensures { result ≡ no_out }
-{
-    Outbox {
-        entries: Seq::new(alloc),
-        envelopes: Seq::new(alloc),
-    }
-}
-
-/// A live node with so many slots, no copies, and nobody who has or wants a slot.
-pub fn new_node(alloc: Global, slots: u32) -> Node
-    ensures { result ≡ new_node slots }
-{
-    Node {
-        is_live: true,
-        store: Store {
-            primaries: Copies::new(alloc),
-            secondaries: Secondaries::new(),
-        },
-        scheduler: Scheduler {
-            slots,
-            slot_holders: Seq::new(alloc),
-            answered: Seq::new(alloc),
-            queue: Queue::new(alloc),
-            asks: Asks::new(alloc),
-            idle: IdleWorkers::new(alloc),
-            leases: Leases::new(alloc),
-        },
-    }
-}
-
-/// A live worker on the node that owns nothing, has begun no attempt and was told of no death.
-pub fn new_worker(alloc: Global, node: NodeId) -> Worker
-    ensures { result ≡ new_worker node }
-{
-    Worker {
-        node,
-        is_live: true,
-        objects: Objects::new(alloc),
-        run: None,
-        began: Attempts::new(alloc),
-        passed_on: Seq::new(alloc),
-        dead_workers: Seq::new(alloc),
-        dead_nodes: Seq::new(alloc),
-    }
-}
 
 /// Leaves no item, and what room there is. Most often there is none to let go of.
 #[inline(always)]
@@ -163,60 +107,6 @@ pub fn enter(
     here.me = number;
     begin(whole, node, &mut here.there);
     exchange(whole, place, node_place, here);
-}
-
-/// How many messages the context has room for from its start. A list that grows is copied, up to the size from which on the C library moves its pages
-/// instead, of which it has none before they are written. This one is that large.
-const MESSAGES: usize = 2048;
-
-/// A context with nothing in it, in which workers and their nodes come into events.
-pub fn blank_context(alloc: Global) -> Result<WorkerContext, AllocError>
-    ensures { IfOk result (λ here. here ≡ nothing_here) }
-{
-    let mut out = no_out(alloc);
-    out.envelopes.items.reserve(MESSAGES)?;
-    Ok(WorkerContext {
-        me: WorkerId(0),
-        worker: Boxed::new(alloc, new_worker(alloc, NodeId(0)))?,
-        there: NodeContext {
-            number: NodeId(0),
-            nodes: 0,
-            workers: 0,
-            opened: 0,
-            node: Boxed::new(alloc, new_node(alloc, 0))?,
-            out,
-        },
-    })
-}
-
-/// Lets go of all that an event left in the context.
-pub fn clear_context(alloc: Global, here: &mut WorkerContext)
-    ensures { here.new ≡ nothing_here }
-{
-    here.me = WorkerId(0);
-    *here.worker = new_worker(alloc, NodeId(0));
-    here.there.number = NodeId(0);
-    here.there.nodes = 0;
-    here.there.workers = 0;
-    here.there.opened = 0;
-    *here.there.node = new_node(alloc, 0);
-    here.there.out = no_out(alloc);
-}
-
-/// What came of a step. Where it found no memory, and may have left half of what it does, nothing is left of the context.
-pub fn settle_step(
-    alloc: Global,
-    here: &mut WorkerContext,
-    came: Result<(), AllocError>,
-) -> Result<(), AllocError>
-    ensures told { result ≡ came }
-    ensures done { OnOk result (here.new ≡ here.old) }
-    ensures err { OnErr result (here.new ≡ nothing_here) }
-{
-    if came.is_err() {
-        clear_context(alloc, here);
-    }
-    came
 }
 
 /// Nothing is logged.

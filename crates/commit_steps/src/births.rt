@@ -1,6 +1,7 @@
 // New own objects of a commit: puts with their contents, and tasks with an object for each result.
 
-ghost use Rattle.std.specs.Prelude.{◌≡◌, ◌+◌, ◌≤◌, ◌^◌, ◌++◌, ◌∷◌, [], IfOk, OnOk, Some, None};
+ghost use Rattle.std.specs.Prelude.{◌≡◌, ◌+◌, ◌≤◌, ◌^◌, ◌++◌, ◌∷◌, [], IfOk, OnErr, OnOk, Some, None};
+ghost use Rattle.worker_steps.specs.of_contexts.Emptied.{nothing_here};
 ghost use Rattle.meaning.specs.Values.{Val, results_of};
 ghost use Rattle.values.specs.Values.{value_of};
 ghost use Rattle.protocol.specs.Numbered.{changed_at};
@@ -21,7 +22,7 @@ use small_list::SmallList;
 use std::alloc::{AllocError, Global};
 use task_spec::Birth;
 use values::RunValue;
-use worker_steps::{hold_ids, say_to_node};
+use worker_steps::{hold_ids, or_nothing, say_to_node};
 
 /// The id of the worker's next object.
 pub fn next_id(here: &WorkerContext) -> ObjectId
@@ -38,10 +39,10 @@ pub fn next_id(here: &WorkerContext) -> ObjectId
 
 /// One more own object.
 fn add_own(here: &mut WorkerContext, object: Object) -> Result<(), AllocError>
-    ensures { OnOk result (here.new ≡ with_objects here.old (object ∷ [])) }
+    ensures done { OnOk result (here.new ≡ with_objects here.old (object ∷ [])) }
+    ensures err { OnErr result (here.new ≡ nothing_here) }
 {
-    here.worker.objects.push(object)?;
-    Ok(())
+    or_nothing(here.worker.objects.push(object), here)
 }
 
 /// What was put has its content at once, on the worker's node.
@@ -108,16 +109,18 @@ fn add_first(
     spec: &SharedBirth,
     ids: &Seq<ObjectId>,
 ) -> Result<(), AllocError>
-    ensures { OnOk result (here.new ≡ with_objects here.old (new_object (ByTask (new_task spec.now)) bearer ids.now ∷ [])) }
+    ensures done { OnOk result (here.new ≡ with_objects here.old (new_object (ByTask (new_task spec.now)) bearer ids.now ∷ [])) }
+    ensures err { OnErr result (here.new ≡ nothing_here) }
 {
-    let spec = spec.copy(alloc)?;
+    let spec = or_nothing(spec.copy(alloc), here)?;
     let task = OwnTask {
         spec,
         begun: SmallList::new(alloc),
         number: 0,
         progress: Progress::AtRest,
     };
-    let made = task_object(alloc, ObjectSource::ByTask(task), bearer, ids)?;
+    let made = task_object(alloc, ObjectSource::ByTask(task), bearer, ids);
+    let made = or_nothing(made, here)?;
     add_own(here, made)
 }
 
@@ -131,11 +134,13 @@ fn add_others(
     others: u8,
     ids: &Seq<ObjectId>,
 ) -> Result<(), AllocError>
-    ensures { OnOk result (here.new ≡ with_objects here.old (repeated others (new_object (Beside first) bearer ids.now))) }
+    ensures done { OnOk result (here.new ≡ with_objects here.old (repeated others (new_object (Beside first) bearer ids.now))) }
+    ensures err { OnErr result (here.new ≡ nothing_here) }
 {
     for turn in 0..others {
         let _ = turn;
-        let made = task_object(alloc, ObjectSource::Beside(first), bearer, ids)?;
+        let made = task_object(alloc, ObjectSource::Beside(first), bearer, ids);
+        let made = or_nothing(made, here)?;
         add_own(here, made)?;
     }
     Ok(())
@@ -158,14 +163,16 @@ fn bear_put(
     value: &RunValue,
     ids: &Seq<ObjectId>,
 ) -> Result<(), AllocError>
-    ensures { OnOk result (here.new ≡ bears_put here.old bearer object (value_of value.now) ids.now) }
+    ensures done { OnOk result (here.new ≡ bears_put here.old bearer object (value_of value.now) ids.now) }
+    ensures err { OnErr result (here.new ≡ nothing_here) }
 {
-    let content = content_put(alloc, value)?;
+    let content = or_nothing(content_put(alloc, value), here)?;
     let node = here.worker.node;
-    let kept = SmallList::of(alloc, ids.as_slice())?;
-    let made = put_object(alloc, bearer, kept, node)?;
+    let kept = or_nothing(SmallList::of(alloc, ids.as_slice()), here)?;
+    let made = or_nothing(put_object(alloc, bearer, kept, node), here)?;
     add_own(here, made)?;
-    put_primary(&mut here.there.node.store, object, 0, content)?;
+    let stored = put_primary(&mut here.there.node.store, object, 0, content);
+    or_nothing(stored, here)?;
     hold_ids(here, object, ids)
 }
 
@@ -187,10 +194,11 @@ fn request_first(
     object: ObjectId,
     spec: &SharedBirth,
 ) -> Result<(), AllocError>
-    ensures { OnOk result (here.new ≡ requests here.old object (new_task spec.now)) }
+    ensures done { OnOk result (here.new ≡ requests here.old object (new_task spec.now)) }
+    ensures err { OnErr result (here.new ≡ nothing_here) }
 {
     let node = here.worker.node;
-    let spec = spec.copy(alloc)?;
+    let spec = or_nothing(spec.copy(alloc), here)?;
     let task = OwnTask {
         spec,
         begun: SmallList::new(alloc),
@@ -212,7 +220,8 @@ fn bear_task(
     ids: &Seq<ObjectId>,
 ) -> Result<(), AllocError>
     requires { object.serial ≤ 2 ^ 63 }
-    ensures { results_of spec.now ≡ 1 + others → OnOk result (here.new ≡ bears_task here.old bearer object spec.now others ids.now) }
+    ensures done { results_of spec.now ≡ 1 + others → OnOk result (here.new ≡ bears_task here.old bearer object spec.now others ids.now) }
+    ensures err { OnErr result (here.new ≡ nothing_here) }
 {
     add_first(alloc, here, bearer, spec, ids)?;
     add_others(alloc, here, bearer, object.serial, others, ids)?;
@@ -227,10 +236,11 @@ fn bear(
     bearer: AttemptId,
     spec: &SharedBirth,
 ) -> Result<(), AllocError>
-    ensures { OnOk result (here.new ≡ bears here.old bearer spec.now) }
+    ensures done { OnOk result (here.new ≡ bears here.old bearer spec.now) }
+    ensures err { OnErr result (here.new ≡ nothing_here) }
 {
     let object = next_id(here);
-    let ids = ids_in_birth(alloc, spec)?;
+    let ids = or_nothing(ids_in_birth(alloc, spec), here)?;
     match &*spec.inner {
         Birth::Put(value) => bear_put(alloc, here, bearer, object, value, &ids),
         Birth::Task { others, .. } => bear_task(alloc, here, bearer, object, spec, *others, &ids),
@@ -244,7 +254,8 @@ pub fn bear_all(
     bearer: AttemptId,
     births: &Seq<SharedBirth>,
 ) -> Result<(), AllocError>
-    ensures { OnOk result (here.new ≡ bears_all here.old bearer births.now) }
+    ensures done { OnOk result (here.new ≡ bears_all here.old bearer births.now) }
+    ensures err { OnErr result (here.new ≡ nothing_here) }
 {
     for birth in &births.items {
         bear(alloc, here, bearer, birth)?;

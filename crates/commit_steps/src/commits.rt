@@ -1,6 +1,7 @@
 // A commit: what a job came to.
 
-ghost use Rattle.std.specs.Prelude.{◌≡◌, ◌+◌, ◌++◌, IfOk, OnOk, Some, None, true};
+ghost use Rattle.std.specs.Prelude.{◌≡◌, ◌+◌, ◌++◌, IfOk, OnErr, OnOk, Some, None, true};
+ghost use Rattle.worker_steps.specs.of_contexts.Emptied.{nothing_here};
 ghost use Rattle.protocol.specs.Steps.{with_phase, with_run};
 ghost use Rattle.protocol.specs.Tables.{HasEnded, Out};
 ghost use Rattle.protocol.specs.Commits.{asks_where, claim_step, commit_step, ends, keeps_content, keeps_contents, needs, rests_if_waiting, stops, with_outcomes};
@@ -14,7 +15,7 @@ use held::{Births, Printed, Prints, SharedBirth, SharedContent};
 use ids::{AttemptId, ObjectId};
 use object_store::put_end;
 use owner_steps::{id_behind, need_own};
-use protocol_data::{Message, Outcomes, Phase, Stopped, WorkerContext, copy_contents};
+use protocol_data::{Execution, Message, Outcomes, Phase, Stopped, WorkerContext, copy_contents};
 use sequence::Seq;
 use small_list::SmallList;
 use std::alloc::{AllocError, Global};
@@ -22,14 +23,15 @@ use std::mem;
 use values::{Content, Fault, FaultKind, RunValue};
 use worker_steps::{
     fault, give_slot_back, hold_ids, ids_in_content, is_own, is_waiting_for, knows_dead,
-    leave_if_free, pass_on, say, set_phase,
+    leave_if_free, or_nothing, pass_on, say, set_phase,
 };
 
 // ---- stops
 
 /// The location of the object is looked for.
 fn ask_where(alloc: Global, here: &mut WorkerContext, object: ObjectId) -> Result<(), AllocError>
-    ensures { OnOk result (here.new ≡ asks_where here.old object) }
+    ensures done { OnOk result (here.new ≡ asks_where here.old object) }
+    ensures err { OnErr result (here.new ≡ nothing_here) }
 {
     if is_own(here, object) {
         return need_own(alloc, here, object);
@@ -47,7 +49,8 @@ fn rest_if_waiting(
     here: &mut WorkerContext,
     object: ObjectId,
 ) -> Result<(), AllocError>
-    ensures { OnOk result (here.new ≡ rests_if_waiting here.old object) }
+    ensures done { OnOk result (here.new ≡ rests_if_waiting here.old object) }
+    ensures err { OnErr result (here.new ≡ nothing_here) }
 {
     if is_waiting_for(&here.worker, object) {
         return give_slot_back(alloc, here);
@@ -57,7 +60,8 @@ fn rest_if_waiting(
 
 /// The attempt needs an object: it waits, unless it is answered at once.
 fn need(alloc: Global, here: &mut WorkerContext, object: ObjectId) -> Result<(), AllocError>
-    ensures { (run : Execution) → here.old.worker.run ≡ Some run → OnOk result (here.new ≡ needs here.old run object) }
+    ensures done { (run : Execution) → here.old.worker.run ≡ Some run → OnOk result (here.new ≡ needs here.old run object) }
+    ensures err { OnErr result (here.new ≡ nothing_here) }
 {
     set_phase(here, Phase::Waits(object, None));
     ask_where(alloc, here, object)?;
@@ -72,11 +76,13 @@ fn keep_content(
     number: u32,
     content: &SharedContent,
 ) -> Result<(), AllocError>
-    ensures { OnOk result (here.new ≡ keeps_content here.old object number content.now) }
+    ensures done { OnOk result (here.new ≡ keeps_content here.old object number content.now) }
+    ensures err { OnErr result (here.new ≡ nothing_here) }
 {
-    let ids = ids_in_content(alloc, content)?;
-    let stored = content.copy(alloc)?;
-    put_end(&mut here.there.node.store, object, number, stored)?;
+    let ids = or_nothing(ids_in_content(alloc, content), here)?;
+    let stored = or_nothing(content.copy(alloc), here)?;
+    let put = put_end(&mut here.there.node.store, object, number, stored);
+    or_nothing(put, here)?;
     pass_on(here, object, &ids)?;
     hold_ids(here, object, &ids)
 }
@@ -90,10 +96,11 @@ fn keep_contents(
     number: u32,
     contents: &[SharedContent],
 ) -> Result<(), AllocError>
-    ensures { OnOk result (here.new ≡ keeps_contents here.old object number contents.now) }
+    ensures done { OnOk result (here.new ≡ keeps_contents here.old object number contents.now) }
+    ensures err { OnErr result (here.new ≡ nothing_here) }
 {
     for i in 0..contents.len() {
-        let result = id_behind(alloc, object, i as u64)?;
+        let result = or_nothing(id_behind(alloc, object, i as u64), here)?;
         keep_content(alloc, here, result, number, &contents[i])?;
     }
     Ok(())
@@ -142,10 +149,11 @@ fn end_keeping(
     attempt: AttemptId,
     contents: &SmallList<SharedContent>,
 ) -> Result<(), AllocError>
-    ensures { (run : Execution) → here.old.worker.run ≡ Some run → run.attempt ≡ attempt → OnOk result
+    ensures done { (run : Execution) → here.old.worker.run ≡ Some run → run.attempt ≡ attempt → OnOk result
         (here.new ≡ keeps_contents (with_phase here.old run (HasEnded contents.now)) run.attempt.object run.attempt.number contents.now) }
+    ensures err { OnErr result (here.new ≡ nothing_here) }
 {
-    let kept = copy_contents(contents, alloc)?;
+    let kept = or_nothing(copy_contents(contents, alloc), here)?;
     set_phase(here, Phase::HasEnded(kept));
     keep_contents(
         alloc,
@@ -162,8 +170,9 @@ fn set_ended(
     here: &mut WorkerContext,
     contents: &mut SmallList<SharedContent>,
 ) -> Result<(), AllocError>
-    ensures { (run : Execution) → here.old.worker.run ≡ Some run → OnOk result
+    ensures done { (run : Execution) → here.old.worker.run ≡ Some run → OnOk result
         (here.new ≡ keeps_contents (with_phase here.old run (HasEnded contents.old)) run.attempt.object run.attempt.number contents.old) }
+    ensures err { OnErr result (here.new ≡ nothing_here) }
 {
     let Some(run) = &here.worker.run else {
         return Ok(());
@@ -182,7 +191,8 @@ fn end(
     here: &mut WorkerContext,
     contents: &mut SmallList<SharedContent>,
 ) -> Result<(), AllocError>
-    ensures { (run : Execution) → here.old.worker.run ≡ Some run → OnOk result (here.new ≡ ends here.old run contents.old) }
+    ensures done { (run : Execution) → here.old.worker.run ≡ Some run → OnOk result (here.new ≡ ends here.old run contents.old) }
+    ensures err { OnErr result (here.new ≡ nothing_here) }
 {
     set_ended(alloc, here, contents)?;
     leave_if_free(alloc, here)?;
@@ -191,7 +201,8 @@ fn end(
 
 /// The attempt stops there.
 fn stop(alloc: Global, here: &mut WorkerContext, stop: &mut Stopped) -> Result<(), AllocError>
-    ensures { OnOk result (here.new ≡ stops here.old stop.old) }
+    ensures done { OnOk result (here.new ≡ stops here.old stop.old) }
+    ensures err { OnErr result (here.new ≡ nothing_here) }
 {
     if here.worker.run.is_none() {
         return Ok(());
@@ -224,19 +235,29 @@ fn add_prints(alloc: Global, prints: &mut Prints, more: &Seq<Printed>) -> Result
     Ok(())
 }
 
-/// What was done is added to what the attempt did.
+/// What was done is added to what the attempt did, which is ready then.
+#[inline(always)]
+fn add_all(alloc: Global, run: &mut Execution, outcomes: &Outcomes) -> Result<(), AllocError>
+    ensures { OnOk result (run.new ≡ with_outcomes run.old outcomes.now) }
+{
+    add_births(alloc, &mut run.births, &outcomes.births)?;
+    add_prints(alloc, &mut run.prints, &outcomes.prints)?;
+    run.phase = Phase::Ready;
+    Ok(())
+}
+
+/// The same, of the worker's attempt.
 fn add_outcomes(
     alloc: Global,
     here: &mut WorkerContext,
     outcomes: &Outcomes,
 ) -> Result<(), AllocError>
-    ensures { (run : Execution) → here.old.worker.run ≡ Some run → OnOk result (here.new ≡ with_run here.old (with_outcomes run outcomes.now)) }
+    ensures done { (run : Execution) → here.old.worker.run ≡ Some run → OnOk result (here.new ≡ with_run here.old (with_outcomes run outcomes.now)) }
+    ensures err { OnErr result (here.new ≡ nothing_here) }
 {
     if let Some(run) = &mut here.worker.run {
-        add_births(alloc, &mut run.births, &outcomes.births)?;
-        add_prints(alloc, &mut run.prints, &outcomes.prints)?;
-        run.phase = Phase::Ready;
-        return Ok(());
+        let came = add_all(alloc, run, outcomes);
+        return or_nothing(came, here);
     }
     Ok(())
 }
@@ -249,7 +270,8 @@ pub fn commit_step(
     here: &mut WorkerContext,
     outcomes: &mut Outcomes,
 ) -> Result<(), AllocError>
-    ensures { OnOk result (here.new ≡ commit_step here.old outcomes.old) }
+    ensures done { OnOk result (here.new ≡ commit_step here.old outcomes.old) }
+    ensures err { OnErr result (here.new ≡ nothing_here) }
 {
     let Some(run) = &here.worker.run else {
         return Ok(());

@@ -1,6 +1,7 @@
 // The entries of a commit: births, prints, and the end.
 
-ghost use Rattle.std.specs.Prelude.{◌≡◌, ◌++◌, ◌∷◌, [], IfOk, OnOk, map};
+ghost use Rattle.std.specs.Prelude.{◌≡◌, ◌++◌, ◌∷◌, [], IfOk, OnErr, OnOk, map};
+ghost use Rattle.worker_steps.specs.of_contexts.Emptied.{nothing_here};
 ghost use Rattle.event_log.specs.Entries as logged;
 ghost use Rattle.event_log.specs.Commits.{commit_entries};
 ghost use Rattle.protocol.specs.Jobs.{stop_of};
@@ -14,7 +15,7 @@ use owner_steps::id_behind;
 use protocol_data::{Outcomes, Stopped, WorkerContext, copy_contents};
 use sequence::Seq;
 use std::alloc::{AllocError, Global};
-use worker_steps::{log, results_of};
+use worker_steps::{log, or_nothing, results_of};
 
 /// Logs the births, which take ids from `first` on, one a result.
 #[tactic(auto, using(crate::proofs::LogLaws::next_born, crate::proofs::LogLaws::none_logged))]
@@ -25,11 +26,12 @@ fn log_births(
     first: ObjectId,
     births: &[SharedBirth],
 ) -> Result<(), AllocError>
-    ensures { OnOk result (here.new ≡ logs_all here.old (born attempt first births.now)) }
+    ensures done { OnOk result (here.new ≡ logs_all here.old (born attempt first births.now)) }
+    ensures err { OnErr result (here.new ≡ nothing_here) }
 {
     let mut object = first;
     for spec in births {
-        let birth = spec.copy(alloc)?;
+        let birth = or_nothing(spec.copy(alloc), here)?;
         log(
             here,
             Entry::Born {
@@ -38,7 +40,7 @@ fn log_births(
                 birth,
             },
         )?;
-        object = id_behind(alloc, object, results_of(spec))?;
+        object = or_nothing(id_behind(alloc, object, results_of(spec)), here)?;
     }
     Ok(())
 }
@@ -46,10 +48,11 @@ fn log_births(
 /// Adds an entry for each print, in order.
 #[tactic(auto, using(crate::proofs::LogLaws::one_logged, crate::proofs::LogLaws::none_logged))]
 fn log_prints(alloc: Global, here: &mut WorkerContext, prints: &[Printed]) -> Result<(), AllocError>
-    ensures { OnOk result (here.new ≡ logs_all here.old (map logged.Printed prints.now)) }
+    ensures done { OnOk result (here.new ≡ logs_all here.old (map logged.Printed prints.now)) }
+    ensures err { OnErr result (here.new ≡ nothing_here) }
 {
     for value in prints {
-        let value = value.copy(alloc)?;
+        let value = or_nothing(value.copy(alloc), here)?;
         log(here, Entry::Printed(value))?;
     }
     Ok(())
@@ -63,12 +66,13 @@ fn log_end(
     attempt: AttemptId,
     stop: &Stopped,
 ) -> Result<(), AllocError>
-    ensures { OnOk result (here.new ≡ logs_all here.old (ended attempt stop.now)) }
+    ensures done { OnOk result (here.new ≡ logs_all here.old (ended attempt stop.now)) }
+    ensures err { OnErr result (here.new ≡ nothing_here) }
 {
     match stop {
         Stopped::AtGet(_) => Ok(()),
         Stopped::AtEnd(contents) => {
-            let contents = copy_contents(contents, alloc)?;
+            let contents = or_nothing(copy_contents(contents, alloc), here)?;
             log(here, Entry::Ended { attempt, contents })
         }
     }
@@ -83,7 +87,8 @@ pub fn log_outcomes(
     first: ObjectId,
     outcomes: &Outcomes,
 ) -> Result<(), AllocError>
-    ensures { OnOk result (here.new ≡ logs_all here.old (commit_entries attempt first outcomes.now.births outcomes.now.prints (stop_of outcomes.now.stop))) }
+    ensures done { OnOk result (here.new ≡ logs_all here.old (commit_entries attempt first outcomes.now.births outcomes.now.prints (stop_of outcomes.now.stop))) }
+    ensures err { OnErr result (here.new ≡ nothing_here) }
 {
     log_births(alloc, here, attempt, first, outcomes.births.as_slice())?;
     log_prints(alloc, here, outcomes.prints.as_slice())?;

@@ -1,6 +1,7 @@
 // What a worker does where it is told that another worker or a node is dead.
 
-ghost use Rattle.std.specs.Prelude.{◌≡◌, OnOk, Some, None};
+ghost use Rattle.std.specs.Prelude.{◌≡◌, OnErr, OnOk, Some, None};
+ghost use Rattle.worker_steps.specs.of_contexts.Emptied.{nothing_here};
 ghost use Rattle.protocol.specs.Notices.{hears_of_node, hears_of_worker, notice_node_step, notice_step};
 
 use crate::node_deaths::{add_dead_node, lose_fetch, lose_locations, move_asks};
@@ -18,7 +19,8 @@ fn hear_of_worker(
     here: &mut WorkerContext,
     worker: WorkerId,
 ) -> Result<(), AllocError>
-    ensures { OnOk result (here.new ≡ hears_of_worker here.old worker) }
+    ensures done { OnOk result (here.new ≡ hears_of_worker here.old worker) }
+    ensures err { OnErr result (here.new ≡ nothing_here) }
 {
     add_dead_worker(here, worker)?;
     break_where(alloc, here, &Endpoint::TheWorker(worker))?;
@@ -34,7 +36,8 @@ pub fn notice_step(
     here: &mut WorkerContext,
     worker: WorkerId,
 ) -> Result<(), AllocError>
-    ensures { OnOk result (here.new ≡ notice_step here.old worker) }
+    ensures done { OnOk result (here.new ≡ notice_step here.old worker) }
+    ensures err { OnErr result (here.new ≡ nothing_here) }
 {
     if knows_dead(&here.worker, worker) {
         return Ok(());
@@ -44,7 +47,8 @@ pub fn notice_step(
 
 /// What a node's death ends.
 fn hear_of_node(alloc: Global, here: &mut WorkerContext, node: NodeId) -> Result<(), AllocError>
-    ensures { OnOk result (here.new ≡ hears_of_node here.old node) }
+    ensures done { OnOk result (here.new ≡ hears_of_node here.old node) }
+    ensures err { OnErr result (here.new ≡ nothing_here) }
 {
     add_dead_node(here, node)?;
     break_where(alloc, here, &Endpoint::TheNode(node))?;
@@ -59,7 +63,8 @@ pub fn notice_node_step(
     here: &mut WorkerContext,
     node: NodeId,
 ) -> Result<(), AllocError>
-    ensures { OnOk result (here.new ≡ notice_node_step here.old node) }
+    ensures done { OnOk result (here.new ≡ notice_node_step here.old node) }
+    ensures err { OnErr result (here.new ≡ nothing_here) }
 {
     if has_node(&here.worker.dead_nodes, node) {
         return Ok(());

@@ -1,5 +1,5 @@
 //! What a worker does when it is told of a death, of a worker or of a node. Each function is equal to its pure step in `protocol`. An error is want of
-//! memory, and then nothing is said of the tables.
+//! memory, and then nothing is left of the worker and its node.
 #![tactic(auto, unfolding(meaning::specs::Births::same_id, ids::specs::Attempts::same_attempt))]
 
 mod deaths;

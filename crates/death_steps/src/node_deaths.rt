@@ -1,6 +1,7 @@
 // What the death of a node ends.
 
-ghost use Rattle.std.specs.Prelude.{◌≡◌, ◌==◌, ◌+◌, ◌-◌, ◌++◌, ◌∷◌, [], IfOk, OnOk, Some, None, map};
+ghost use Rattle.std.specs.Prelude.{◌≡◌, ◌==◌, ◌+◌, ◌-◌, ◌++◌, ◌∷◌, [], IfOk, OnErr, OnOk, Some, None, map};
+ghost use Rattle.worker_steps.specs.of_contexts.Emptied.{nothing_here};
 ghost use Rattle.protocol.specs.Tables.{task_of, without_location};
 ghost use Rattle.protocol.specs.Steps.{own_object};
 ghost use Rattle.protocol.specs.Notices.{loses_fetch, loses_locations, moves_ask, moves_asks, with_dead_node};
@@ -10,13 +11,14 @@ use number_lists::{object_at_number, remove_node};
 use owner_steps::{ask_next, missing_reached};
 use protocol_data::{Endpoint, ObjectSource, Objects, Phase, Progress, WorkerContext};
 use std::alloc::{AllocError, Global};
+use worker_steps::or_nothing;
 
 /// The worker knows that the node is dead.
 pub fn add_dead_node(here: &mut WorkerContext, node: NodeId) -> Result<(), AllocError>
-    ensures { OnOk result (here.new ≡ with_dead_node here.old node) }
+    ensures done { OnOk result (here.new ≡ with_dead_node here.old node) }
+    ensures err { OnErr result (here.new ≡ nothing_here) }
 {
-    here.worker.dead_nodes.push(node)?;
-    Ok(())
+    or_nothing(here.worker.dead_nodes.push(node), here)
 }
 
 /// None of the objects has a copy at the node.
@@ -40,7 +42,8 @@ pub fn lose_locations(here: &mut WorkerContext, node: NodeId)
 
 /// The ask for that task, if it stands at the node, goes to the next node.
 fn move_ask(here: &mut WorkerContext, node: NodeId, serial: u64) -> Result<(), AllocError>
-    ensures { OnOk result (here.new ≡ moves_ask here.old node serial (task_of (own_object here.old serial))) }
+    ensures done { OnOk result (here.new ≡ moves_ask here.old node serial (task_of (own_object here.old serial))) }
+    ensures err { OnErr result (here.new ≡ nothing_here) }
 {
     let Some(found) = object_at_number(&here.worker.objects, serial) else {
         return Ok(());
@@ -63,7 +66,8 @@ fn move_ask(here: &mut WorkerContext, node: NodeId, serial: u64) -> Result<(), A
 /// The asks that stand at the node go to the next node.
 #[tactic(auto, using(worker_steps::proofs::EachLaws::each_step, worker_steps::proofs::EachLaws::each_last))]
 pub fn move_asks(here: &mut WorkerContext, node: NodeId) -> Result<(), AllocError>
-    ensures { OnOk result (here.new ≡ moves_asks here.old node) }
+    ensures done { OnOk result (here.new ≡ moves_asks here.old node) }
+    ensures err { OnErr result (here.new ≡ nothing_here) }
 {
     let count = here.worker.objects.len() as u64;
     for place in 0..count {
@@ -74,7 +78,8 @@ pub fn move_asks(here: &mut WorkerContext, node: NodeId) -> Result<(), AllocErro
 
 /// A Fetch under way to the node finds no copy.
 pub fn lose_fetch(alloc: Global, here: &mut WorkerContext, node: NodeId) -> Result<(), AllocError>
-    ensures { OnOk result (here.new ≡ loses_fetch here.old node) }
+    ensures done { OnOk result (here.new ≡ loses_fetch here.old node) }
+    ensures err { OnErr result (here.new ≡ nothing_here) }
 {
     let Some(run) = &here.worker.run else {
         return Ok(());

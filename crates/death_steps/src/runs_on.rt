@@ -1,6 +1,7 @@
 // The attempts that a death breaks.
 
-ghost use Rattle.std.specs.Prelude.{◌≡◌, ◌==◌, ◌+◌, ◌-◌, OnOk, Some, None};
+ghost use Rattle.std.specs.Prelude.{◌≡◌, ◌==◌, ◌+◌, ◌-◌, OnErr, OnOk, Some, None};
+ghost use Rattle.worker_steps.specs.of_contexts.Emptied.{nothing_here};
 ghost use Rattle.protocol.specs.Tables.{task_of};
 ghost use Rattle.protocol.specs.Steps.{own_object};
 ghost use Rattle.protocol.specs.Notices.{breaks_if, breaks_where, runs_on_node, runs_on_worker};
@@ -51,7 +52,8 @@ fn break_if(
     dead: &Endpoint,
     serial: u64,
 ) -> Result<(), AllocError>
-    ensures { OnOk result (here.new ≡ breaks_if (runs_on dead.now) here.old serial (task_of (own_object here.old serial))) }
+    ensures done { OnOk result (here.new ≡ breaks_if (runs_on dead.now) here.old serial (task_of (own_object here.old serial))) }
+    ensures err { OnErr result (here.new ≡ nothing_here) }
 {
     let Some(found) = object_at_number(&here.worker.objects, serial) else {
         return Ok(());
@@ -73,7 +75,8 @@ pub fn break_where(
     here: &mut WorkerContext,
     dead: &Endpoint,
 ) -> Result<(), AllocError>
-    ensures { OnOk result (here.new ≡ breaks_where (runs_on dead.now) here.old) }
+    ensures done { OnOk result (here.new ≡ breaks_where (runs_on dead.now) here.old) }
+    ensures err { OnErr result (here.new ≡ nothing_here) }
 {
     let count = here.worker.objects.len() as u64;
     for place in 0..count {

@@ -1,6 +1,7 @@
 // What the death of a worker ends.
 
-ghost use Rattle.std.specs.Prelude.{◌≡◌, ◌&&◌, ◌==◌, ◌++◌, ◌∷◌, [], IfOk, OnOk, Some, None, not};
+ghost use Rattle.std.specs.Prelude.{◌≡◌, ◌&&◌, ◌==◌, ◌++◌, ◌∷◌, [], IfOk, OnErr, OnOk, Some, None, not};
+ghost use Rattle.worker_steps.specs.of_contexts.Emptied.{nothing_here};
 ghost use Rattle.std.specs.List.{filter};
 ghost use Rattle.protocol.specs.Steps.{with_run};
 ghost use Rattle.protocol.specs.Notices.{drops_holds, drops_holds_by, drops_stop, is_unheard, loses_owner, with_dead_worker};
@@ -10,14 +11,14 @@ use ids::WorkerId;
 use protocol_data::{Execution, Holding, Phase, SmallList, WorkerContext};
 use std::alloc::{AllocError, Global};
 use values::{Fault, FaultKind};
-use worker_steps::{fault, leave_if_free, note_heard};
+use worker_steps::{fault, leave_if_free, note_heard, or_nothing};
 
 /// The worker knows that the other is dead.
 pub fn add_dead_worker(here: &mut WorkerContext, worker: WorkerId) -> Result<(), AllocError>
-    ensures { OnOk result (here.new ≡ with_dead_worker here.old worker) }
+    ensures done { OnOk result (here.new ≡ with_dead_worker here.old worker) }
+    ensures err { OnErr result (here.new ≡ nothing_here) }
 {
-    here.worker.dead_workers.push(worker)?;
-    Ok(())
+    or_nothing(here.worker.dead_workers.push(worker), here)
 }
 
 /// The own attempt, if it needs an object of the dead, is answered by a fault.
@@ -26,7 +27,8 @@ pub fn lose_owner(
     here: &mut WorkerContext,
     worker: WorkerId,
 ) -> Result<(), AllocError>
-    ensures { OnOk result (here.new ≡ loses_owner here.old worker) }
+    ensures done { OnOk result (here.new ≡ loses_owner here.old worker) }
+    ensures err { OnErr result (here.new ≡ nothing_here) }
 {
     let Some(run) = &here.worker.run else {
         return Ok(());
@@ -59,19 +61,32 @@ fn holds_of_others(
     Ok(others)
 }
 
+/// Takes out the Holds that are of objects of the dead.
+fn keep_of_others(
+    alloc: Global,
+    holds: &mut SmallList<Holding>,
+    worker: WorkerId,
+) -> Result<(), AllocError>
+    ensures done { OnOk result (holds.new ≡ filter (λ k. not (k.object.owner == worker)) holds.old) }
+    ensures err { OnErr result (holds.new ≡ holds.old) }
+{
+    let others = holds_of_others(alloc, holds, worker)?;
+    *holds = others;
+    Ok(())
+}
+
 /// The own attempt waits for no Hold to the dead.
 fn keep_holds_of_others(
     alloc: Global,
     here: &mut WorkerContext,
     worker: WorkerId,
 ) -> Result<(), AllocError>
-    ensures { (run : Execution) → here.old.worker.run ≡ Some run →
+    ensures done { (run : Execution) → here.old.worker.run ≡ Some run →
         OnOk result (here.new ≡ with_run here.old (record run { holds = filter (λ k. not (k.object.owner == worker)) run.holds })) }
+    ensures err { OnErr result (here.new ≡ nothing_here) }
 {
     if let Some(run) = &mut here.worker.run {
-        let others = holds_of_others(alloc, &run.holds, worker)?;
-        run.holds = others;
-        return Ok(());
+        return or_nothing(keep_of_others(alloc, &mut run.holds, worker), here);
     }
     Ok(())
 }
@@ -82,7 +97,8 @@ fn drop_own_holds(
     here: &mut WorkerContext,
     worker: WorkerId,
 ) -> Result<(), AllocError>
-    ensures { (run : Execution) → here.old.worker.run ≡ Some run → OnOk result (here.new ≡ drops_holds_by here.old worker (Some run)) }
+    ensures done { (run : Execution) → here.old.worker.run ≡ Some run → OnOk result (here.new ≡ drops_holds_by here.old worker (Some run)) }
+    ensures err { OnErr result (here.new ≡ nothing_here) }
 {
     keep_holds_of_others(alloc, here, worker)?;
     leave_if_free(alloc, here)
@@ -94,7 +110,8 @@ pub fn drop_holds(
     here: &mut WorkerContext,
     worker: WorkerId,
 ) -> Result<(), AllocError>
-    ensures { OnOk result (here.new ≡ drops_holds here.old worker) }
+    ensures done { OnOk result (here.new ≡ drops_holds here.old worker) }
+    ensures err { OnErr result (here.new ≡ nothing_here) }
 {
     match &here.worker.run {
         None => Ok(()),
@@ -111,7 +128,8 @@ pub fn is_unheard(run: &Execution) -> bool
 
 /// The end of an attempt of the dead counts as heard.
 pub fn drop_stop(here: &mut WorkerContext, worker: WorkerId) -> Result<(), AllocError>
-    ensures { OnOk result (here.new ≡ drops_stop here.old worker) }
+    ensures done { OnOk result (here.new ≡ drops_stop here.old worker) }
+    ensures err { OnErr result (here.new ≡ nothing_here) }
 {
     let Some(run) = &here.worker.run else {
         return Ok(());

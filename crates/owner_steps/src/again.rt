@@ -1,6 +1,7 @@
 // Attempts that begin, break, or are asked for elsewhere.
 
 ghost use Rattle.std.specs.Prelude.{◌≡◌, ◌+◌, ◌≤◌, ◌^◌, ◌++◌, ◌∷◌, [], OnErr, OnOk, IfOk, Some, None};
+ghost use Rattle.worker_steps.specs.of_contexts.Emptied.{nothing_here};
 ghost use Rattle.protocol.specs.Numbered.{changed_at, item_at};
 ghost use Rattle.protocol.specs.Tables.{task_of, with_task};
 ghost use Rattle.protocol.specs.Steps.{object_at};
@@ -20,7 +21,7 @@ use protocol_data::{
 };
 use sequence::refused_growth;
 use std::alloc::{AllocError, Global};
-use worker_steps::{ask_at, end_of, is_own, knows_dead, log, request, say};
+use worker_steps::{ask_at, end_of, is_own, knows_dead, log, or_nothing, request, say};
 
 /// The task has no retries left: those of its objects that have no copy are resolved by RetriesUsed, and whoever waits for one of them is answered.
 #[tactic(auto, using(crate::proofs::Each::used_up))]
@@ -30,8 +31,9 @@ fn use_up(
     object: ObjectId,
     number: u32,
 ) -> Result<(), AllocError>
-    ensures { (task : OwnTask) → task_of (item_at here.old.worker.objects object.serial) ≡ Some task → task.number ≡ number
+    ensures done { (task : OwnTask) → task_of (item_at here.old.worker.objects object.serial) ≡ Some task → task.number ≡ number
         → OnOk result (here.new ≡ uses_up here.old object task) }
+    ensures err { OnErr result (here.new ≡ nothing_here) }
 {
     let end = end_of(&here.worker.objects, object.serial);
     rest(here, object, number);
@@ -47,8 +49,9 @@ pub fn break_attempt(
     here: &mut WorkerContext,
     object: ObjectId,
 ) -> Result<(), AllocError>
-    ensures { (task : OwnTask) → task_of (item_at here.old.worker.objects object.serial) ≡ Some task
+    ensures done { (task : OwnTask) → task_of (item_at here.old.worker.objects object.serial) ≡ Some task
         → OnOk result (here.new ≡ breaks here.old object task) }
+    ensures err { OnErr result (here.new ≡ nothing_here) }
 {
     let Some(found) = object_at_number(&here.worker.objects, object.serial) else {
         return Ok(());
@@ -102,8 +105,9 @@ fn push(
     worker: WorkerId,
     node: NodeId,
 ) -> Result<(), AllocError>
-    ensures { (task : OwnTask) → task_of (item_at here.old.worker.objects object.serial) ≡ Some task
+    ensures done { (task : OwnTask) → task_of (item_at here.old.worker.objects object.serial) ≡ Some task
         → OnOk result (here.new ≡ pushes here.old object (with_begun task worker node) worker) }
+    ensures err { OnErr result (here.new ≡ nothing_here) }
 {
     let Some(found) = object_at_number(&here.worker.objects, object.serial) else {
         return Ok(());
@@ -115,8 +119,11 @@ fn push(
         object,
         number: task.number,
     };
-    let spec = task.spec.copy(alloc)?;
-    set_begun_at(&mut here.worker.objects, object.serial, worker, node)?;
+    let spec = or_nothing(task.spec.copy(alloc), here)?;
+    match set_begun_at(&mut here.worker.objects, object.serial, worker, node) {
+        Ok(()) => {}
+        Err(error) => return or_nothing(Err(error), here),
+    }
     log(here, Entry::Begun { attempt, worker })?;
     say(here, worker, Message::Push(attempt, spec))
 }
@@ -129,8 +136,9 @@ fn push_in_vain(
     worker: WorkerId,
     node: NodeId,
 ) -> Result<(), AllocError>
-    ensures { (task : OwnTask) → task_of (item_at here.old.worker.objects object.serial) ≡ Some task
+    ensures done { (task : OwnTask) → task_of (item_at here.old.worker.objects object.serial) ≡ Some task
         → OnOk result (here.new ≡ breaks (pushes here.old object (with_begun task worker node) worker) object (with_begun task worker node)) }
+    ensures err { OnErr result (here.new ≡ nothing_here) }
 {
     push(alloc, here, object, worker, node)?;
     break_attempt(alloc, here, object)
@@ -144,8 +152,9 @@ fn begin(
     worker: WorkerId,
     node: NodeId,
 ) -> Result<(), AllocError>
-    ensures { (task : OwnTask) → task_of (item_at here.old.worker.objects object.serial) ≡ Some task
+    ensures done { (task : OwnTask) → task_of (item_at here.old.worker.objects object.serial) ≡ Some task
         → OnOk result (here.new ≡ begins here.old object task worker node) }
+    ensures err { OnErr result (here.new ≡ nothing_here) }
 {
     if knows_dead(&here.worker, worker) {
         return push_in_vain(alloc, here, object, worker, node);
@@ -193,7 +202,8 @@ pub fn given_reached(
     t: u32,
     worker: WorkerId,
 ) -> Result<(), AllocError>
-    ensures { OnOk result (here.new ≡ given_reached here.old node attempt t worker) }
+    ensures done { OnOk result (here.new ≡ given_reached here.old node attempt t worker) }
+    ensures err { OnErr result (here.new ≡ nothing_here) }
 {
     if !has_ask(here, attempt, t) {
         return Ok(());
@@ -237,10 +247,12 @@ pub fn ask_next(
     t: u32,
     node: NodeId,
 ) -> Result<(), AllocError>
-    ensures { (task : OwnTask) → task_of (item_at here.old.worker.objects object.serial) ≡ Some task
+    ensures done { (task : OwnTask) → task_of (item_at here.old.worker.objects object.serial) ≡ Some task
         → OnOk result (here.new ≡ asks_next here.old object (record task { number = number }) t node) }
+    ensures err { OnErr result (here.new ≡ nothing_here) }
 {
-    let t = next_ask(*here.there.out.entries.items.allocator(), t)?;
+    let alloc = *here.there.out.entries.items.allocator();
+    let t = or_nothing(next_ask(alloc, t), here)?;
     let next = first_live(&here.worker, here.there.nodes, node);
     ask_at(here, object, number, t, next)
 }
@@ -252,8 +264,9 @@ fn ask_on(
     t: u32,
     node: NodeId,
 ) -> Result<(), AllocError>
-    ensures { (task : OwnTask) → task_of (item_at here.old.worker.objects object.serial) ≡ Some task
+    ensures done { (task : OwnTask) → task_of (item_at here.old.worker.objects object.serial) ≡ Some task
         → OnOk result (here.new ≡ asks_next here.old object task t node) }
+    ensures err { OnErr result (here.new ≡ nothing_here) }
 {
     let Some(found) = object_at_number(&here.worker.objects, object.serial) else {
         return Ok(());
@@ -273,7 +286,8 @@ pub fn elsewhere_reached(
     t: u32,
     node: NodeId,
 ) -> Result<(), AllocError>
-    ensures { OnOk result (here.new ≡ elsewhere_reached here.old attempt t node) }
+    ensures done { OnOk result (here.new ≡ elsewhere_reached here.old attempt t node) }
+    ensures err { OnErr result (here.new ≡ nothing_here) }
 {
     if !has_ask(here, attempt, t) {
         return Ok(());

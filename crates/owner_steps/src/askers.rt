@@ -1,6 +1,7 @@
 // Workers that ask where an object is, or find no copy of it.
 
-ghost use Rattle.std.specs.Prelude.{◌≡◌, OnOk, Some, None};
+ghost use Rattle.std.specs.Prelude.{◌≡◌, OnErr, OnOk, Some, None};
+ghost use Rattle.worker_steps.specs.of_contexts.Emptied.{nothing_here};
 ghost use Rattle.protocol.specs.Numbered.{changed_at};
 ghost use Rattle.protocol.specs.Tables.{with_asker};
 ghost use Rattle.protocol.specs.Steps.{changes};
@@ -14,7 +15,9 @@ use number_lists::{add_worker, row_of};
 use protocol_data::{Endpoint, Message, Object, Objects, WorkerContext, copy_of};
 use std::alloc::{AllocError, Global};
 use values::{Fault, FaultKind};
-use worker_steps::{find_none, is_own, is_present, is_waiting_for, object_at, report_missing, say};
+use worker_steps::{
+    find_none, is_own, is_present, is_waiting_for, object_at, or_nothing, report_missing, say,
+};
 
 /// The worker waits for the object of that serial.
 fn add_asker_at(objects: &mut Objects, serial: u64, worker: WorkerId) -> Result<(), AllocError>
@@ -30,9 +33,13 @@ fn add_asker_at(objects: &mut Objects, serial: u64, worker: WorkerId) -> Result<
 
 /// The worker waits for the own object.
 fn add_asker(here: &mut WorkerContext, object: ObjectId, worker: WorkerId) -> Result<(), AllocError>
-    ensures { OnOk result (here.new ≡ changes here.old object (with_asker worker)) }
+    ensures done { OnOk result (here.new ≡ changes here.old object (with_asker worker)) }
+    ensures err { OnErr result (here.new ≡ nothing_here) }
 {
-    add_asker_at(&mut here.worker.objects, object.serial, worker)
+    or_nothing(
+        add_asker_at(&mut here.worker.objects, object.serial, worker),
+        here,
+    )
 }
 
 /// Who asks for a released object is told of a fault where an object of the dead held it, and is passed over else.
@@ -42,7 +49,8 @@ fn tell_released(
     object: ObjectId,
     dead_holder: Option<ObjectId>,
 ) -> Result<(), AllocError>
-    ensures { OnOk result (here.new ≡ tells_released here.old object worker dead_holder) }
+    ensures done { OnOk result (here.new ≡ tells_released here.old object worker dead_holder) }
+    ensures err { OnErr result (here.new ≡ nothing_here) }
 {
     let Some(held_by) = dead_holder else {
         return Ok(());
@@ -63,7 +71,8 @@ pub fn where_reached(
     worker: WorkerId,
     object: ObjectId,
 ) -> Result<(), AllocError>
-    ensures { OnOk result (here.new ≡ where_reached here.old worker object) }
+    ensures done { OnOk result (here.new ≡ where_reached here.old worker object) }
+    ensures err { OnErr result (here.new ≡ nothing_here) }
 {
     let Some(found) = object_at(here, object) else {
         return Ok(());
@@ -76,8 +85,10 @@ pub fn where_reached(
     }
     if has_content(found) {
         let number = settled_number(found);
-        let locations = found.locations.copy(alloc)?;
-        let kept = copy_of(&found.kept, alloc)?;
+        let locations = found.locations.copy(alloc);
+        let kept = copy_of(&found.kept, alloc);
+        let locations = or_nothing(locations, here)?;
+        let kept = or_nothing(kept, here)?;
         return say(here, worker, Message::At(object, number, locations, kept));
     }
     if found.is_released {
@@ -111,7 +122,8 @@ fn hand_missing_on(
     number: u32,
     node: NodeId,
 ) -> Result<(), AllocError>
-    ensures { OnOk result (here.new ≡ hands_missing_on here.old object number node) }
+    ensures done { OnOk result (here.new ≡ hands_missing_on here.old object number node) }
+    ensures err { OnErr result (here.new ≡ nothing_here) }
 {
     if is_waiting_for(&here.worker, object) {
         return find_none(here, object, number, node);
@@ -126,7 +138,8 @@ fn missing_from(
     sender: &Endpoint,
     object: ObjectId,
 ) -> Result<(), AllocError>
-    ensures { OnOk result (here.new ≡ missing_from here.old sender.now object) }
+    ensures done { OnOk result (here.new ≡ missing_from here.old sender.now object) }
+    ensures err { OnErr result (here.new ≡ nothing_here) }
 {
     match sender {
         Endpoint::TheWorker(worker) => where_reached(alloc, here, *worker, object),
@@ -144,7 +157,8 @@ pub fn missing_reached(
     number: u32,
     node: NodeId,
 ) -> Result<(), AllocError>
-    ensures { OnOk result (here.new ≡ missing_reached here.old sender.now object number node) }
+    ensures done { OnOk result (here.new ≡ missing_reached here.old sender.now object number node) }
+    ensures err { OnErr result (here.new ≡ nothing_here) }
 {
     if !is_own(here, object) {
         return hand_missing_on(here, object, number, node);

@@ -1,6 +1,7 @@
 // The owner hears how an attempt stopped.
 
-ghost use Rattle.std.specs.Prelude.{◌≡◌, ◌&&◌, ◌-◌, ◌==◌, IfOk, OnOk, [], ◌∷◌, ◌++◌, Some, None, drop, true};
+ghost use Rattle.std.specs.Prelude.{◌≡◌, ◌&&◌, ◌-◌, ◌==◌, IfOk, OnErr, OnOk, [], ◌∷◌, ◌++◌, Some, None, drop, true};
+ghost use Rattle.worker_steps.specs.of_contexts.Emptied.{nothing_here};
 ghost use Rattle.protocol.specs.Numbered.{changed_at, item_at};
 ghost use Rattle.protocol.specs.Tables.{ever_for, is_pending_task, locations_for, task_of, with_content};
 ghost use Rattle.protocol.specs.Steps.{changes, with_task_of};
@@ -20,7 +21,7 @@ use protocol_data::{
 use sequence::Seq;
 use std::alloc::{AllocError, Global};
 use values::Fault;
-use worker_steps::{end_of, is_own, log, say, set_progress_at};
+use worker_steps::{end_of, is_own, log, or_nothing, say, set_progress_at};
 
 /// Whether it is the present attempt of a pending task.
 fn is_present_attempt(attempt: AttemptId, task: &OwnTask) -> bool
@@ -39,7 +40,8 @@ fn hear_of_end(
     worker: WorkerId,
     attempt: AttemptId,
 ) -> Result<(), AllocError>
-    ensures { OnOk result (here.new ≡ hears_of_end here.old worker attempt) }
+    ensures done { OnOk result (here.new ≡ hears_of_end here.old worker attempt) }
+    ensures err { OnErr result (here.new ≡ nothing_here) }
 {
     say(here, worker, Message::FinishedAck(attempt))
 }
@@ -147,19 +149,14 @@ fn settle_all(
     node: NodeId,
     results: &SmallList<EndedResult>,
 ) -> Result<(), AllocError>
-    ensures { OnOk result (here.new ≡ settles here.old object number node (end - object.serial) results.now) }
+    ensures done { OnOk result (here.new ≡ settles here.old object number node (end - object.serial) results.now) }
+    ensures err { OnErr result (here.new ≡ nothing_here) }
 {
     let mut place = 0;
     for serial in object.serial..end {
-        set_told_content_at(
-            alloc,
-            &mut here.worker.objects,
-            serial,
-            number,
-            node,
-            results,
-            place,
-        )?;
+        let objects = &mut here.worker.objects;
+        let set = set_told_content_at(alloc, objects, serial, number, node, results, place);
+        or_nothing(set, here)?;
         place += 1;
     }
     Ok(())
@@ -174,8 +171,9 @@ fn accept(
     node: NodeId,
     results: &SmallList<EndedResult>,
 ) -> Result<(), AllocError>
-    ensures { (task : OwnTask) → task_of (item_at here.old.worker.objects attempt.object.serial) ≡ Some task → task.number ≡ attempt.number
+    ensures done { (task : OwnTask) → task_of (item_at here.old.worker.objects attempt.object.serial) ≡ Some task → task.number ≡ attempt.number
         → OnOk result (here.new ≡ accepts here.old attempt task node results.now) }
+    ensures err { OnErr result (here.new ≡ nothing_here) }
 {
     let end = end_of(&here.worker.objects, attempt.object.serial);
     rest(here, attempt.object, attempt.number);
@@ -201,9 +199,10 @@ fn take_end(
     node: NodeId,
     results: &SmallList<EndedResult>,
 ) -> Result<(), AllocError>
-    ensures { (task : OwnTask) → task_of (item_at here.old.worker.objects attempt.object.serial) ≡ Some task → task.number ≡ attempt.number
+    ensures done { (task : OwnTask) → task_of (item_at here.old.worker.objects attempt.object.serial) ≡ Some task → task.number ≡ attempt.number
         → if_present attempt task ≡ true
         → OnOk result (here.new ≡ finished_by here.old worker attempt node results.now (Some task)) }
+    ensures err { OnErr result (here.new ≡ nothing_here) }
 {
     let end = end_of(&here.worker.objects, attempt.object.serial);
     accept(alloc, here, attempt, node, results)?;
@@ -222,7 +221,8 @@ pub fn finished_reached(
     node: NodeId,
     results: &SmallList<EndedResult>,
 ) -> Result<(), AllocError>
-    ensures { OnOk result (here.new ≡ finished_reached here.old worker attempt node results.now) }
+    ensures done { OnOk result (here.new ≡ finished_reached here.old worker attempt node results.now) }
+    ensures err { OnErr result (here.new ≡ nothing_here) }
 {
     if !is_own(here, attempt.object) {
         return hear_of_end(here, worker, attempt);
@@ -248,9 +248,10 @@ fn take_fault(
     attempt: AttemptId,
     why: Fault,
 ) -> Result<(), AllocError>
-    ensures { (task : OwnTask) → task_of (item_at here.old.worker.objects attempt.object.serial) ≡ Some task → task.number ≡ attempt.number
+    ensures done { (task : OwnTask) → task_of (item_at here.old.worker.objects attempt.object.serial) ≡ Some task → task.number ≡ attempt.number
         → if_present attempt task ≡ true
         → OnOk result (here.new ≡ failed_by here.old worker attempt why (Some task)) }
+    ensures err { OnErr result (here.new ≡ nothing_here) }
 {
     let end = end_of(&here.worker.objects, attempt.object.serial);
     rest(here, attempt.object, attempt.number);
@@ -268,7 +269,8 @@ pub fn failed_reached(
     attempt: AttemptId,
     why: Fault,
 ) -> Result<(), AllocError>
-    ensures { OnOk result (here.new ≡ failed_reached here.old worker attempt why) }
+    ensures done { OnOk result (here.new ≡ failed_reached here.old worker attempt why) }
+    ensures err { OnErr result (here.new ≡ nothing_here) }
 {
     if !is_own(here, attempt.object) {
         return hear_of_end(here, worker, attempt);

@@ -1,6 +1,6 @@
 //! What a worker does as the owner of its objects: asks, beginnings and broken attempts, ends that are accepted, answers to whoever waits, lost
 //! objects that are made again, and needs. Each function is equal to its pure step in `protocol`. An error is want of memory, and then nothing is
-//! said of the tables.
+//! left of the worker and its node.
 #![tactic(auto, unfolding(meaning::specs::Births::same_id, ids::specs::Attempts::same_attempt))]
 
 mod again;

@@ -1,6 +1,7 @@
 // The worker's own attempt needs an own object.
 
-ghost use Rattle.std.specs.Prelude.{◌≡◌, OnOk, [], Some, None};
+ghost use Rattle.std.specs.Prelude.{◌≡◌, OnErr, OnOk, [], Some, None};
+ghost use Rattle.worker_steps.specs.of_contexts.Emptied.{nothing_here};
 ghost use Rattle.std.specs.Option.{unwrap_or};
 ghost use Rattle.protocol.specs.Numbered.{changed_at};
 ghost use Rattle.protocol.specs.Stores.{copy_in};
@@ -20,7 +21,9 @@ use protocol_data::{Object, Objects, Worker, WorkerContext, copy_of};
 use sequence::Seq;
 use std::alloc::{AllocError, Global};
 use values::{Fault, FaultKind};
-use worker_steps::{fault, fetch, get, is_waiting_for, live_location, object_at, set_fetching};
+use worker_steps::{
+    fault, fetch, get, is_waiting_for, live_location, object_at, or_nothing, set_fetching,
+};
 
 /// The number of the attempt whose content it has, 0 for what was put.
 pub fn settled_number(object: &Object) -> u32
@@ -73,7 +76,8 @@ fn look_elsewhere(
     number: u32,
     locations: &Seq<NodeId>,
 ) -> Result<(), AllocError>
-    ensures { (x : Object) → settled_number x ≡ number → x.locations ≡ locations.now → OnOk result (here.new ≡ looks_elsewhere here.old object x) }
+    ensures done { (x : Object) → settled_number x ≡ number → x.locations ≡ locations.now → OnOk result (here.new ≡ looks_elsewhere here.old object x) }
+    ensures err { OnErr result (here.new ≡ nothing_here) }
 {
     if let Some(node) = live_location(&here.worker, locations) {
         return fetch(here, object, number, node);
@@ -90,11 +94,12 @@ fn look_past(
     number: u32,
     locations: &Seq<NodeId>,
 ) -> Result<(), AllocError>
-    ensures { (x : Object) → settled_number x ≡ number → x.locations ≡ locations.now → OnOk result (here.new ≡ looks_here_by here.old object x None) }
+    ensures done { (x : Object) → settled_number x ≡ number → x.locations ≡ locations.now → OnOk result (here.new ≡ looks_here_by here.old object x None) }
+    ensures err { OnErr result (here.new ≡ nothing_here) }
 {
     let node = here.worker.node;
     remove_location(here, object, node);
-    let mut others = locations.copy(alloc)?;
+    let mut others = or_nothing(locations.copy(alloc), here)?;
     remove_node(&mut others, node);
     look_elsewhere(alloc, here, object, number, &others)
 }
@@ -107,10 +112,12 @@ fn look_here(
     number: u32,
     locations: &Seq<NodeId>,
 ) -> Result<(), AllocError>
-    ensures { (x : Object) → settled_number x ≡ number → x.locations ≡ locations.now
+    ensures done { (x : Object) → settled_number x ≡ number → x.locations ≡ locations.now
         → OnOk result (here.new ≡ looks_here_by here.old object x (copy_in here.old.there.node.store object (settled_number x))) }
+    ensures err { OnErr result (here.new ≡ nothing_here) }
 {
-    let Some(content) = get_copy(alloc, &mut here.there.node.store, object, number)? else {
+    let found = get_copy(alloc, &mut here.there.node.store, object, number);
+    let Some(content) = or_nothing(found, here)? else {
         return look_past(alloc, here, object, number, locations);
     };
     get(alloc, here, &content)
@@ -124,7 +131,8 @@ fn look_at_locations(
     number: u32,
     locations: &Seq<NodeId>,
 ) -> Result<(), AllocError>
-    ensures { (x : Object) → settled_number x ≡ number → x.locations ≡ locations.now → OnOk result (here.new ≡ looks_at_locations here.old object x) }
+    ensures done { (x : Object) → settled_number x ≡ number → x.locations ≡ locations.now → OnOk result (here.new ≡ looks_at_locations here.old object x) }
+    ensures err { OnErr result (here.new ≡ nothing_here) }
 {
     if has_node(locations, here.worker.node) {
         return look_here(alloc, here, object, number, locations);
@@ -141,7 +149,8 @@ fn look_for(
     locations: &Seq<NodeId>,
     kept: &Option<SharedContent>,
 ) -> Result<(), AllocError>
-    ensures { (x : Object) → settled_number x ≡ number → x.locations ≡ locations.now → OnOk result (here.new ≡ looks_for_by here.old object x kept.now) }
+    ensures done { (x : Object) → settled_number x ≡ number → x.locations ≡ locations.now → OnOk result (here.new ≡ looks_for_by here.old object x kept.now) }
+    ensures err { OnErr result (here.new ≡ nothing_here) }
 {
     match kept {
         None => look_at_locations(alloc, here, object, number, locations),
@@ -155,7 +164,8 @@ fn need_released(
     here: &mut WorkerContext,
     dead_holder: Option<ObjectId>,
 ) -> Result<(), AllocError>
-    ensures { OnOk result (here.new ≡ needs_released here.old dead_holder) }
+    ensures done { OnOk result (here.new ≡ needs_released here.old dead_holder) }
+    ensures err { OnErr result (here.new ≡ nothing_here) }
 {
     let Some(object) = dead_holder else {
         return Ok(());
@@ -168,7 +178,8 @@ fn need_released(
 /// once; else it is fetched from the first location that isn't known dead. Where no location is left the object is made again. One that was released
 /// answers with a fault where an object of the dead held it. For a pending one the attempt waits.
 pub fn need_own(alloc: Global, here: &mut WorkerContext, object: ObjectId) -> Result<(), AllocError>
-    ensures { OnOk result (here.new ≡ needs_own here.old object) }
+    ensures done { OnOk result (here.new ≡ needs_own here.old object) }
+    ensures err { OnErr result (here.new ≡ nothing_here) }
 {
     set_fetching(here, None);
     let Some(found) = object_at(here, object) else {
@@ -179,8 +190,10 @@ pub fn need_own(alloc: Global, here: &mut WorkerContext, object: ObjectId) -> Re
     }
     if has_content(found) {
         let number = settled_number(found);
-        let locations = found.locations.copy(alloc)?;
-        let kept = copy_of(&found.kept, alloc)?;
+        let locations = found.locations.copy(alloc);
+        let kept = copy_of(&found.kept, alloc);
+        let locations = or_nothing(locations, here)?;
+        let kept = or_nothing(kept, here)?;
         return look_for(alloc, here, object, number, &locations, &kept);
     }
     if is_lost(&here.worker.objects, found) {
@@ -199,7 +212,8 @@ pub fn need_own_if_waiting(
     here: &mut WorkerContext,
     object: ObjectId,
 ) -> Result<(), AllocError>
-    ensures { OnOk result (here.new ≡ needs_own_if_waiting here.old object) }
+    ensures done { OnOk result (here.new ≡ needs_own_if_waiting here.old object) }
+    ensures err { OnErr result (here.new ≡ nothing_here) }
 {
     if is_waiting_for(&here.worker, object) {
         return need_own(alloc, here, object);

@@ -1,6 +1,7 @@
 // A lost object is made again.
 
-ghost use Rattle.std.specs.Prelude.{◌≡◌, Err, OnOk, Some, None};
+ghost use Rattle.std.specs.Prelude.{◌≡◌, Err, OnErr, OnOk, Some, None};
+ghost use Rattle.worker_steps.specs.of_contexts.Emptied.{nothing_here};
 ghost use Rattle.protocol.specs.Steps.{own_object};
 ghost use Rattle.protocol.specs.Recovery.{gives_up, recovers, recovers_if_lost, remakes, remakes_one};
 ghost use Rattle.lineage.specs.Plans.{IsPlanned};
@@ -15,13 +16,14 @@ use protocol_data::WorkerContext;
 use sequence::Seq;
 use std::alloc::{AllocError, Global};
 use values::Fault;
-use worker_steps::{is_pending_task, request, resolve};
+use worker_steps::{is_pending_task, or_nothing, request, resolve};
 
 /// The next attempt of the task that makes the object of that serial is asked for, unless one is under way already.
 #[tactic(auto, using(crate::proofs::Remaking::has_retries, crate::proofs::Remaking::stands_first))]
 fn remake(here: &mut WorkerContext, serial: u64) -> Result<(), AllocError>
     requires { MayBeMade here.old serial }
-    ensures { OnOk result (here.new ≡ remakes_one here.old serial (own_object here.old serial)) }
+    ensures done { OnOk result (here.new ≡ remakes_one here.old serial (own_object here.old serial)) }
+    ensures err { OnErr result (here.new ≡ nothing_here) }
 {
     let objects = &here.worker.objects;
     let Some(found) = object_at_number(objects, serial) else {
@@ -44,7 +46,8 @@ fn remake(here: &mut WorkerContext, serial: u64) -> Result<(), AllocError>
 /// These are asked for again, each once, and of the objects of one task one attempt.
 fn remake_all(here: &mut WorkerContext, serials: &Seq<u64>) -> Result<(), AllocError>
     requires { AllMayBeMade here.old serials.now }
-    ensures { OnOk result (here.new ≡ remakes here.old serials.now) }
+    ensures done { OnOk result (here.new ≡ remakes here.old serials.now) }
+    ensures err { OnErr result (here.new ≡ nothing_here) }
 {
     for serial in &serials.items {
         remake(here, *serial)?;
@@ -59,7 +62,8 @@ fn give_up(
     object: ObjectId,
     why: Fault,
 ) -> Result<(), AllocError>
-    ensures { OnOk result (here.new ≡ gives_up here.old object why) }
+    ensures done { OnOk result (here.new ≡ gives_up here.old object why) }
+    ensures err { OnErr result (here.new ≡ nothing_here) }
 {
     if why.object.is(object) {
         resolve(here, object, why)?;
@@ -79,11 +83,12 @@ fn give_up_by(
     object: ObjectId,
     stop: Stop,
 ) -> Result<(), AllocError>
-    ensures { OnOk result (IsPlanned here.old object.serial (Err stop) → here.new ≡ recovers here.old object) }
+    ensures done { OnOk result (IsPlanned here.old object.serial (Err stop) → here.new ≡ recovers here.old object) }
+    ensures err { OnErr result (here.new ≡ nothing_here) }
 {
     match stop {
         Stop::CannotBeRemade(why) => give_up(alloc, here, object, why),
-        Stop::NoMemory => Err(AllocError),
+        Stop::NoMemory => or_nothing(Err(AllocError), here),
     }
 }
 
@@ -91,7 +96,8 @@ fn give_up_by(
 /// them can't be made again the first such one is resolved, the object asked for to the same fault, and whoever waits for them is answered.
 #[tactic(auto, using(crate::proofs::Plans::remade))]
 pub fn recover(alloc: Global, here: &mut WorkerContext, object: ObjectId) -> Result<(), AllocError>
-    ensures { OnOk result (here.new ≡ recovers here.old object) }
+    ensures done { OnOk result (here.new ≡ recovers here.old object) }
+    ensures err { OnErr result (here.new ≡ nothing_here) }
 {
     plans_are_least_closed_sets();
     match plan(alloc, here, object) {
@@ -106,7 +112,8 @@ pub fn recover_if_lost(
     here: &mut WorkerContext,
     object: ObjectId,
 ) -> Result<(), AllocError>
-    ensures { OnOk result (here.new ≡ recovers_if_lost here.old object) }
+    ensures done { OnOk result (here.new ≡ recovers_if_lost here.old object) }
+    ensures err { OnErr result (here.new ≡ nothing_here) }
 {
     if is_lost_here(here, object) {
         return recover(alloc, here, object);

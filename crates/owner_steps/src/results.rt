@@ -1,6 +1,7 @@
 // What is done with each object of a task.
 
 ghost use Rattle.std.specs.Prelude.{◌≡◌, ◌≤◌, ◌+◌, ◌^◌, IfOk, OnOk, OnErr};
+ghost use Rattle.worker_steps.specs.of_contexts.Emptied.{nothing_here};
 ghost use Rattle.meaning.specs.Runs.{past};
 ghost use Rattle.protocol.specs.Asking.{answers_faulted, resolves_used};
 ghost use Rattle.protocol.specs.Ends.{resolves_open};
@@ -41,7 +42,8 @@ pub fn id_behind(alloc: Global, object: ObjectId, count: u64) -> Result<ObjectId
 
 /// The own object is resolved by RetriesUsed of itself, if it has no copy and no fault.
 fn resolve_used(here: &mut WorkerContext, serial: u64) -> Result<(), AllocError>
-    ensures { OnOk result (here.new ≡ resolves_used here.old (own_id here.old serial)) }
+    ensures done { OnOk result (here.new ≡ resolves_used here.old (own_id here.old serial)) }
+    ensures err { OnErr result (here.new ≡ nothing_here) }
 {
     let object = own_id(here, serial);
     let Some(found) = object_at(here, object) else {
@@ -57,7 +59,8 @@ fn resolve_used(here: &mut WorkerContext, serial: u64) -> Result<(), AllocError>
 /// So is each from the one serial to before the other.
 #[tactic(auto, using(worker_steps::proofs::EachLaws::each_step, worker_steps::proofs::EachLaws::each_done))]
 pub fn resolve_all_used(here: &mut WorkerContext, from: u64, end: u64) -> Result<(), AllocError>
-    ensures { OnOk result (here.new ≡ each_own resolves_used here.old from end) }
+    ensures done { OnOk result (here.new ≡ each_own resolves_used here.old from end) }
+    ensures err { OnErr result (here.new ≡ nothing_here) }
 {
     for serial in from..end {
         resolve_used(here, serial)?;
@@ -67,7 +70,8 @@ pub fn resolve_all_used(here: &mut WorkerContext, from: u64, end: u64) -> Result
 
 /// The own object is resolved to the fault, if it has none.
 fn resolve_open(here: &mut WorkerContext, serial: u64, why: Fault) -> Result<(), AllocError>
-    ensures { OnOk result (here.new ≡ resolves_open why here.old (own_id here.old serial)) }
+    ensures done { OnOk result (here.new ≡ resolves_open why here.old (own_id here.old serial)) }
+    ensures err { OnErr result (here.new ≡ nothing_here) }
 {
     let object = own_id(here, serial);
     let Some(found) = object_at(here, object) else {
@@ -87,7 +91,8 @@ pub fn resolve_all_open(
     end: u64,
     why: Fault,
 ) -> Result<(), AllocError>
-    ensures { OnOk result (here.new ≡ each_own (resolves_open why) here.old from end) }
+    ensures done { OnOk result (here.new ≡ each_own (resolves_open why) here.old from end) }
+    ensures err { OnErr result (here.new ≡ nothing_here) }
 {
     for serial in from..end {
         resolve_open(here, serial, why)?;
@@ -101,7 +106,8 @@ fn answer_settled_own(
     here: &mut WorkerContext,
     serial: u64,
 ) -> Result<(), AllocError>
-    ensures { OnOk result (here.new ≡ answers_settled here.old (own_id here.old serial)) }
+    ensures done { OnOk result (here.new ≡ answers_settled here.old (own_id here.old serial)) }
+    ensures err { OnErr result (here.new ≡ nothing_here) }
 {
     let object = own_id(here, serial);
     answer_settled(alloc, here, object)
@@ -115,7 +121,8 @@ pub fn answer_all_settled(
     from: u64,
     end: u64,
 ) -> Result<(), AllocError>
-    ensures { OnOk result (here.new ≡ each_own answers_settled here.old from end) }
+    ensures done { OnOk result (here.new ≡ each_own answers_settled here.old from end) }
+    ensures err { OnErr result (here.new ≡ nothing_here) }
 {
     for serial in from..end {
         answer_settled_own(alloc, here, serial)?;
@@ -129,7 +136,8 @@ fn answer_faulted_own(
     here: &mut WorkerContext,
     serial: u64,
 ) -> Result<(), AllocError>
-    ensures { OnOk result (here.new ≡ answers_faulted here.old (own_id here.old serial)) }
+    ensures done { OnOk result (here.new ≡ answers_faulted here.old (own_id here.old serial)) }
+    ensures err { OnErr result (here.new ≡ nothing_here) }
 {
     let object = own_id(here, serial);
     answer_faulted(alloc, here, object)
@@ -143,7 +151,8 @@ pub fn answer_all_faulted(
     from: u64,
     end: u64,
 ) -> Result<(), AllocError>
-    ensures { OnOk result (here.new ≡ each_own answers_faulted here.old from end) }
+    ensures done { OnOk result (here.new ≡ each_own answers_faulted here.old from end) }
+    ensures err { OnErr result (here.new ≡ nothing_here) }
 {
     for serial in from..end {
         answer_faulted_own(alloc, here, serial)?;
@@ -159,7 +168,8 @@ pub fn hold_all(
     end: u64,
     ids: &Seq<ObjectId>,
 ) -> Result<(), AllocError>
-    ensures { OnOk result (here.new ≡ each_own (λ g e. holds_ids g e ids.now) here.old from end) }
+    ensures done { OnOk result (here.new ≡ each_own (λ g e. holds_ids g e ids.now) here.old from end) }
+    ensures err { OnErr result (here.new ≡ nothing_here) }
 {
     for serial in from..end {
         let object = own_id(here, serial);

@@ -1,7 +1,7 @@
 // What may happen to a worker's own objects.
 
 ghost use Rattle.std.specs.Prelude.{◌≡◌, OnErr, OnOk};
-ghost use Rattle.cluster_steps.specs.Emptied.{nothing_here};
+ghost use Rattle.worker_steps.specs.of_contexts.Emptied.{nothing_here};
 ghost use Rattle.protocol.specs.Asking.{given_reached};
 ghost use Rattle.protocol.specs.Commits.{bears_all};
 ghost use Rattle.protocol.specs.Ends.{failed_reached, finished_reached};
@@ -9,7 +9,6 @@ ghost use Rattle.protocol.specs.Notices.{notice_node_step, notice_step};
 ghost use Rattle.protocol.specs.Locations.{adds_locations, missing_reached, where_reached};
 ghost use Rattle.protocol.specs.Releases.{release_step};
 
-use cluster_steps::settle_step;
 use commit_steps::bear_all;
 use commit_steps::owner_steps::{
     failed_reached, finished_reached, given_reached, missing_reached, where_reached,
@@ -111,8 +110,7 @@ impl OwnerTable for WorkerContext {
         ensures done { OnOk result (self.new ≡ bears_all self.old bearer births.now) }
         ensures err { OnErr result (self.new ≡ nothing_here) }
     {
-        let came = bear_all(alloc, self, bearer, births);
-        settle_step(alloc, self, came)
+        bear_all(alloc, self, bearer, births)
     }
 
     fn begun(
@@ -126,8 +124,7 @@ impl OwnerTable for WorkerContext {
         ensures done { OnOk result (self.new ≡ given_reached self.old node attempt t worker) }
         ensures err { OnErr result (self.new ≡ nothing_here) }
     {
-        let came = given_reached(alloc, self, node, attempt, t, worker);
-        settle_step(alloc, self, came)
+        given_reached(alloc, self, node, attempt, t, worker)
     }
 
     fn accepted(
@@ -141,8 +138,7 @@ impl OwnerTable for WorkerContext {
         ensures done { OnOk result (self.new ≡ finished_reached self.old worker attempt node results.now) }
         ensures err { OnErr result (self.new ≡ nothing_here) }
     {
-        let came = finished_reached(alloc, self, worker, attempt, node, results);
-        settle_step(alloc, self, came)
+        finished_reached(alloc, self, worker, attempt, node, results)
     }
 
     fn failed(
@@ -155,8 +151,7 @@ impl OwnerTable for WorkerContext {
         ensures done { OnOk result (self.new ≡ failed_reached self.old worker attempt why) }
         ensures err { OnErr result (self.new ≡ nothing_here) }
     {
-        let came = failed_reached(alloc, self, worker, attempt, why);
-        settle_step(alloc, self, came)
+        failed_reached(alloc, self, worker, attempt, why)
     }
 
     fn located(
@@ -169,8 +164,7 @@ impl OwnerTable for WorkerContext {
         ensures done { OnOk result (self.new ≡ adds_locations self.old object number nodes.now) }
         ensures err { OnErr result (self.new ≡ nothing_here) }
     {
-        let came = add_locations_of(self, object, number, nodes);
-        settle_step(alloc, self, came)
+        add_locations_of(self, object, number, nodes)
     }
 
     fn missing(
@@ -184,24 +178,21 @@ impl OwnerTable for WorkerContext {
         ensures done { OnOk result (self.new ≡ missing_reached self.old sender.now object number node) }
         ensures err { OnErr result (self.new ≡ nothing_here) }
     {
-        let came = missing_reached(alloc, self, sender, object, number, node);
-        settle_step(alloc, self, came)
+        missing_reached(alloc, self, sender, object, number, node)
     }
 
     fn node_dead(&mut self, alloc: Global, node: NodeId) -> Result<(), AllocError>
         ensures done { OnOk result (self.new ≡ notice_node_step self.old node) }
         ensures err { OnErr result (self.new ≡ nothing_here) }
     {
-        let came = notice_node_step(alloc, self, node);
-        settle_step(alloc, self, came)
+        notice_node_step(alloc, self, node)
     }
 
     fn worker_dead(&mut self, alloc: Global, worker: WorkerId) -> Result<(), AllocError>
         ensures done { OnOk result (self.new ≡ notice_step self.old worker) }
         ensures err { OnErr result (self.new ≡ nothing_here) }
     {
-        let came = notice_step(alloc, self, worker);
-        settle_step(alloc, self, came)
+        notice_step(alloc, self, worker)
     }
 
     fn answer_where(
@@ -213,15 +204,13 @@ impl OwnerTable for WorkerContext {
         ensures done { OnOk result (self.new ≡ where_reached self.old worker object) }
         ensures err { OnErr result (self.new ≡ nothing_here) }
     {
-        let came = where_reached(alloc, self, worker, object);
-        settle_step(alloc, self, came)
+        where_reached(alloc, self, worker, object)
     }
 
     fn release(&mut self, alloc: Global) -> Result<(), AllocError>
         ensures done { OnOk result (self.new ≡ release_step self.old) }
         ensures err { OnErr result (self.new ≡ nothing_here) }
     {
-        let came = release_all(alloc, self);
-        settle_step(alloc, self, came)
+        release_all(alloc, self)
     }
 }

@@ -1,7 +1,7 @@
 // The steps of a worker as a trait, with the pure step that each equals.
 
 ghost use Rattle.std.specs.Prelude.{◌≡◌, OnErr, OnOk};
-ghost use Rattle.cluster_steps.specs.Emptied.{nothing_here};
+ghost use Rattle.worker_acts.specs.of_contexts.Emptied.{nothing_here};
 ghost use Rattle.protocol.specs.Commits.{claim_step, commit_step};
 ghost use Rattle.protocol.specs.Deliveries.{reached};
 ghost use Rattle.protocol.specs.Notices.{notice_node_step, notice_step};
@@ -9,7 +9,6 @@ ghost use Rattle.protocol.specs.Releases.{release_step};
 ghost use Rattle.protocol.specs.Ticks.{tick_step};
 ghost use Rattle.worker_acts.specs.Acts.{act_step};
 
-use cluster_steps::settle_step;
 use commit_steps::{claim_step, commit_step};
 use ids::{NodeId, WorkerId};
 use protocol_data::{Endpoint, Envelope, Message, Outcomes, WorkerContext};
@@ -57,32 +56,28 @@ impl Proc for WorkerContext {
         ensures done { OnOk result (self.new ≡ reached self.old sender.now message.now) }
         ensures err { OnErr result (self.new ≡ nothing_here) }
     {
-        let came = reached(alloc, self, sender, message);
-        settle_step(alloc, self, came)
+        reached(alloc, self, sender, message)
     }
 
     fn tick(&mut self, alloc: Global) -> Result<(), AllocError>
         ensures done { OnOk result (self.new ≡ tick_step self.old) }
         ensures err { OnErr result (self.new ≡ nothing_here) }
     {
-        let came = tick_step(alloc, self);
-        settle_step(alloc, self, came)
+        tick_step(alloc, self)
     }
 
     fn notice(&mut self, alloc: Global, worker: WorkerId) -> Result<(), AllocError>
         ensures done { OnOk result (self.new ≡ notice_step self.old worker) }
         ensures err { OnErr result (self.new ≡ nothing_here) }
     {
-        let came = notice_step(alloc, self, worker);
-        settle_step(alloc, self, came)
+        notice_step(alloc, self, worker)
     }
 
     fn notice_node(&mut self, alloc: Global, node: NodeId) -> Result<(), AllocError>
         ensures done { OnOk result (self.new ≡ notice_node_step self.old node) }
         ensures err { OnErr result (self.new ≡ nothing_here) }
     {
-        let came = notice_node_step(alloc, self, node);
-        settle_step(alloc, self, came)
+        notice_node_step(alloc, self, node)
     }
 
     fn claim(&mut self, job: u64)
@@ -95,15 +90,13 @@ impl Proc for WorkerContext {
         ensures done { OnOk result (self.new ≡ commit_step self.old outcomes.old) }
         ensures err { OnErr result (self.new ≡ nothing_here) }
     {
-        let came = commit_step(alloc, self, outcomes);
-        settle_step(alloc, self, came)
+        commit_step(alloc, self, outcomes)
     }
 
     fn act(&mut self, alloc: Global, sent: &Seq<Envelope>, act: &mut Act) -> Result<(), AllocError>
         ensures done { OnOk result (self.new ≡ release_step (act_step sent.now act.old self.old)) }
         ensures err { OnErr result (self.new ≡ nothing_here) }
     {
-        let came = take_part(alloc, self, sent, act);
-        settle_step(alloc, self, came)
+        take_part(alloc, self, sent, act)
     }
 }

@@ -30,10 +30,6 @@ pub record RunState : Type 0 where
 abbrev pub first_state : ℕ → ℕ → RunState
 first_state nodes slots = record { log = opening; whole = first_whole nodes slots; first_nodes = nodes; is_halted = false }
 
--- what is left of workers, nodes, messages and jobs where an event found no memory
-abbrev pub nothing_left : ClusterState
-nothing_left = record { slots = 0; nodes = []; workers = []; made = 0; network = []; delivered = []; jobs = [] }
-
 -- the log is legal beside the messages that the run sent; once an event found no memory, beside some
 pub record IsLegalRun (script : Script) (c : RunState) : Type 0 where
   pub own : c.is_halted ≡ false → Legal (beside script c.first_nodes c.whole.network) c.log

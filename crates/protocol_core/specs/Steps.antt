@@ -17,7 +17,8 @@ use Rattle.protocol.specs.Cluster.{ClusterState, worker_at}
 use Rattle.protocol_laws.specs.Shown.{IsAsShown}
 use Rattle.protocol_core.specs.declared.reply.Reply as coded
 use Rattle.protocol_core.specs.declared.reply.Reply.TheVariants as replies
-use Rattle.protocol_core.specs.States.{RunState, beside, nothing_left}
+use Rattle.protocol_core.specs.States.{RunState, beside}
+use Rattle.worker_steps.specs.of_contexts.Emptied.{nothing_left}
 
 -- the attempt is out as the job of that number
 pub record IsOutAs (c : ClusterState) (j : ℕ) (run : Execution) : Type 0 where

@@ -3,18 +3,18 @@
 ghost use Rattle.std.specs.Prelude.{◌≡◌, ◌++◌, ◌∷◌, [], IfOk, OnOk, OnErr, take, true};
 ghost use Rattle.event_log.specs.Legal.{opening};
 ghost use Rattle.protocol_core.specs.Clusters.{IsCluster};
-ghost use Rattle.protocol_core.specs.States.{first_state, nothing_left};
+ghost use Rattle.worker_steps.specs.of_contexts.Emptied.{nothing_left};
+ghost use Rattle.protocol_core.specs.States.{first_state};
 ghost use Rattle.protocol_core.specs.Views.{state_of};
 
 use crate::cluster::Cluster;
 use crate::opening::first_whole;
-use cluster_steps::{blank_context, clear_context};
+use cluster_steps::{blank_context, clear_cluster, clear_context};
 use ids::{AttemptId, NodeId, ObjectId, WorkerId};
 use log_entries::Entry;
 use protocol_data::{ClusterState, WorkerContext, Workers};
 use sequence::Seq;
 use std::alloc::{AllocError, Global};
-use std::mem;
 
 /// Workers, nodes and messages beside the log, how many nodes there were at first, and whether an event found no memory.
 #[derive(Drop)]
@@ -78,21 +78,6 @@ fn add_both(log: &mut Seq<Entry>, own: Entry, more: &mut Seq<Entry>) -> Result<(
     Ok(())
 }
 
-/// No worker, node, message or job.
-fn nothing_left(alloc: Global) -> ClusterState
-    ensures { result ≡ nothing_left }
-{
-    ClusterState {
-        slots: 0,
-        nodes: Seq::new(alloc),
-        workers: Workers::new(alloc),
-        made: 0,
-        network: Seq::new(alloc),
-        delivered: Seq::new(alloc),
-        jobs: Seq::new(alloc),
-    }
-}
-
 impl State {
     /// A run that begins, on these nodes.
     pub fn new(alloc: Global, cluster: Cluster) -> Result<State, AllocError>
@@ -123,14 +108,14 @@ impl State {
     }
 
     /// An event found no memory. What it left of workers, nodes, messages and jobs, which may be half changed, is let go of.
-    pub fn halt(&mut self, alloc: Global)
+    pub fn halt(&mut self)
         ensures left { self.new.whole ≡ nothing_left }
         ensures log { self.new.log ≡ self.old.log }
         ensures nodes { self.new.first_nodes ≡ self.old.first_nodes }
         ensures halted { self.new.is_halted ≡ true }
     {
-        drop(mem::replace(&mut self.whole, nothing_left(alloc)));
-        clear_context(alloc, &mut self.here);
+        clear_cluster(&mut self.whole);
+        clear_context(&mut self.here);
         self.is_halted = true;
     }
 }

@@ -29,10 +29,10 @@ use std::alloc::{AllocError, Global};
 /// An event that found no memory.
 #[cold]
 #[inline(never)]
-fn run_out<S: ScriptName>(alloc: Global, state: &mut State) -> Reply<S>
+fn run_out<S: ScriptName>(state: &mut State) -> Reply<S>
     ensures { RunsOut (state_of state.old) (state_of state.new) (reply_of result) }
 {
-    state.halt(alloc);
+    state.halt();
     Reply::Refused(Refusal::NoMemory)
 }
 
@@ -98,7 +98,7 @@ fn taken<S: ScriptName>(
 {
     match try_step(alloc, state, event, seat, done, is_own) {
         Ok(told) => told,
-        Err(_) => run_out(alloc, state),
+        Err(_) => run_out(state),
     }
 }
 

@@ -1,12 +1,12 @@
 // A run beside its plan, whose log its seats share, and the tickets of its jobs.
 
-ghost use Rattle.std.specs.Prelude.{◌≡◌, [], true, None};
+ghost use Rattle.std.specs.Prelude.{◌≡◌, [], true, Some, None};
 ghost use mathlib.Core.List.{IsPrefix};
 ghost use Rattle.event_log.specs.Books.{totals_of};
 ghost use Rattle.event_log.specs.Entries.{Commit};
 ghost use Rattle.event_log.specs.Laws.{plus};
 ghost use Rattle.log_entries.specs.declared.refusal.Refusal.TheVariants.{NoMemory};
-ghost use Rattle.run_paths.specs.of_protocol_board.Cores.{reply_of};
+ghost use Rattle.run_paths.specs.of_protocol_board.Cores.{Answers, reply_of};
 ghost use Rattle.seats.specs.Counted.{AddsFrom, counted};
 ghost use Rattle.seats.specs.Ends.{IsOverBeside};
 ghost use Rattle.seats.specs.Held.{given_behind};
@@ -119,6 +119,7 @@ impl<S: ScriptName, P: RunName> SeenTurning<S, P> {
         done: Option<Done<S>>,
     ) -> Reply<S>
         requires open { P.is_open ≡ true }
+        ensures answers { Answers self.old.run event seat done self.new.run (reply_of result) }
         ensures counted { totals_of self.new.run.log ≡ plus (totals_of self.old.run.log) (counted event (reply_of result)) }
         ensures watched { AddsFrom P.watched seat (counted event (reply_of result)) self.old.run.log self.new.run.log }
         ensures seated { StaysFrom seat self.old.run.log self.new.run.log }
@@ -137,6 +138,7 @@ impl<S: ScriptName, P: RunName> SeenTurning<S, P> {
         seat: u8,
         done: SeenDone<S, P>,
     ) -> Reply<S>
+        ensures answers { Answers self.old.run (Commit done.job.number) seat (Some done) self.new.run (reply_of result) }
         ensures counted { totals_of self.new.run.log ≡ plus (totals_of self.old.run.log) (counted (Commit done.job.number) (reply_of result)) }
         ensures watched { AddsFrom P.watched seat (counted (Commit done.job.number) (reply_of result)) self.old.run.log self.new.run.log }
         ensures seated { StaysFrom seat self.old.run.log self.new.run.log }

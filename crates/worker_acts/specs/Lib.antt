@@ -1,1 +1,2 @@
 pub mod Acts
+pub use Rattle.worker_steps.specs.of_contexts as of_contexts

@@ -1,6 +1,7 @@
 // What a worker does with each message that reaches it.
 
-ghost use Rattle.std.specs.Prelude.{◌≡◌, OnOk, Some, None};
+ghost use Rattle.std.specs.Prelude.{◌≡◌, OnErr, OnOk, Some, None};
+ghost use Rattle.worker_steps.specs.of_contexts.Emptied.{nothing_here};
 ghost use Rattle.protocol.specs.Deliveries.{reached, reached_from_node, reached_from_worker};
 
 use commit_steps::owner_steps::{
@@ -22,7 +23,8 @@ fn reached_from_worker(
     worker: WorkerId,
     message: &Message,
 ) -> Result<(), AllocError>
-    ensures { OnOk result (here.new ≡ reached_from_worker here.old worker message.now) }
+    ensures done { OnOk result (here.new ≡ reached_from_worker here.old worker message.now) }
+    ensures err { OnErr result (here.new ≡ nothing_here) }
 {
     match message {
         Message::Push(attempt, spec) => push_reached(alloc, here, *attempt, spec),
@@ -60,7 +62,8 @@ fn reached_from_node(
     node: NodeId,
     message: &Message,
 ) -> Result<(), AllocError>
-    ensures { OnOk result (here.new ≡ reached_from_node here.old node message.now) }
+    ensures done { OnOk result (here.new ≡ reached_from_node here.old node message.now) }
+    ensures err { OnErr result (here.new ≡ nothing_here) }
 {
     match message {
         Message::Give(attempt, t, worker) => {
@@ -91,7 +94,8 @@ pub fn reached(
     sender: &Endpoint,
     message: &Message,
 ) -> Result<(), AllocError>
-    ensures { OnOk result (here.new ≡ reached here.old sender.now message.now) }
+    ensures done { OnOk result (here.new ≡ reached here.old sender.now message.now) }
+    ensures err { OnErr result (here.new ≡ nothing_here) }
 {
     match sender {
         Endpoint::TheWorker(worker) => reached_from_worker(alloc, here, *worker, message),

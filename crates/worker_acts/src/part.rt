@@ -1,6 +1,7 @@
 // What a worker does in an event.
 
-ghost use Rattle.std.specs.Prelude.{◌≡◌, OnOk};
+ghost use Rattle.std.specs.Prelude.{◌≡◌, OnErr, OnOk};
+ghost use Rattle.worker_steps.specs.of_contexts.Emptied.{nothing_here};
 ghost use Rattle.protocol.specs.Releases.{release_step};
 ghost use Rattle.protocol.specs.Numbered.{item_at};
 ghost use Rattle.worker_acts.specs.Acts.{act_step, received};
@@ -41,7 +42,8 @@ fn receive(
     sent: &Seq<Envelope>,
     number: u64,
 ) -> Result<(), AllocError>
-    ensures { OnOk result (here.new ≡ received here.old (item_at sent.now number)) }
+    ensures done { OnOk result (here.new ≡ received here.old (item_at sent.now number)) }
+    ensures err { OnErr result (here.new ≡ nothing_here) }
 {
     let Some(envelope) = item_at_number(sent, number) else {
         return Ok(());
@@ -57,7 +59,8 @@ fn step(
     sent: &Seq<Envelope>,
     act: &mut Act,
 ) -> Result<(), AllocError>
-    ensures { OnOk result (here.new ≡ act_step sent.now act.old here.old) }
+    ensures done { OnOk result (here.new ≡ act_step sent.now act.old here.old) }
+    ensures err { OnErr result (here.new ≡ nothing_here) }
 {
     match act {
         Act::Claim(job) => {
@@ -73,7 +76,7 @@ fn step(
 }
 
 /// The worker does its step, where these messages were sent so far, and then releases what no one can reach any more. A message is read where it stands.
-/// After an error nothing is said of the worker's tables.
+/// Where it finds no memory, nothing is left of the worker and its node.
 #[inline(always)]
 pub fn take_part(
     alloc: Global,
@@ -81,7 +84,8 @@ pub fn take_part(
     sent: &Seq<Envelope>,
     act: &mut Act,
 ) -> Result<(), AllocError>
-    ensures { OnOk result (here.new ≡ release_step (act_step sent.now act.old here.old)) }
+    ensures done { OnOk result (here.new ≡ release_step (act_step sent.now act.old here.old)) }
+    ensures err { OnErr result (here.new ≡ nothing_here) }
 {
     step(alloc, here, sent, act)?;
     release_all(alloc, here)

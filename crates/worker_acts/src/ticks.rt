@@ -1,6 +1,7 @@
 // A tick: the worker sends again what it waits for.
 
-ghost use Rattle.std.specs.Prelude.{◌≡◌, ◌+◌, ◌-◌, OnOk, Some, None};
+ghost use Rattle.std.specs.Prelude.{◌≡◌, ◌+◌, ◌-◌, OnErr, OnOk, Some, None};
+ghost use Rattle.worker_steps.specs.of_contexts.Emptied.{nothing_here};
 ghost use Rattle.protocol.specs.Tables.{task_of};
 ghost use Rattle.protocol.specs.Steps.{own_object};
 ghost use Rattle.protocol.specs.Ticks.{asks_again, sends_holds, sends_run, sends_stop, sends_task, sends_tasks, tick_step};
@@ -11,11 +12,12 @@ use ids::{AttemptId, ObjectId};
 use number_lists::object_at_number;
 use protocol_data::{Holding, Message, ObjectSource, Phase, Progress, SmallList, WorkerContext};
 use std::alloc::{AllocError, Global};
-use worker_steps::{is_own, say, say_to_node, tell_stop};
+use worker_steps::{is_own, or_nothing, say, say_to_node, tell_stop};
 
 /// Of a pending task, its Ask or its Push is sent again.
 fn send_task(alloc: Global, here: &mut WorkerContext, serial: u64) -> Result<(), AllocError>
-    ensures { OnOk result (here.new ≡ sends_task here.old serial (task_of (own_object here.old serial))) }
+    ensures done { OnOk result (here.new ≡ sends_task here.old serial (task_of (own_object here.old serial))) }
+    ensures err { OnErr result (here.new ≡ nothing_here) }
 {
     let Some(found) = object_at_number(&here.worker.objects, serial) else {
         return Ok(());
@@ -36,7 +38,7 @@ fn send_task(alloc: Global, here: &mut WorkerContext, serial: u64) -> Result<(),
         }
         Progress::RunsOn(worker, _) => {
             let worker = *worker;
-            let spec = task.spec.copy(alloc)?;
+            let spec = or_nothing(task.spec.copy(alloc), here)?;
             say(here, worker, Message::Push(attempt, spec))
         }
     }
@@ -45,7 +47,8 @@ fn send_task(alloc: Global, here: &mut WorkerContext, serial: u64) -> Result<(),
 /// Of each pending task, in birth order.
 #[tactic(auto, using(worker_steps::proofs::EachLaws::each_step, worker_steps::proofs::EachLaws::each_last))]
 fn send_tasks(alloc: Global, here: &mut WorkerContext) -> Result<(), AllocError>
-    ensures { OnOk result (here.new ≡ sends_tasks here.old) }
+    ensures done { OnOk result (here.new ≡ sends_tasks here.old) }
+    ensures err { OnErr result (here.new ≡ nothing_here) }
 {
     let count = here.worker.objects.len() as u64;
     for place in 0..count {
@@ -56,7 +59,8 @@ fn send_tasks(alloc: Global, here: &mut WorkerContext) -> Result<(), AllocError>
 
 /// What the own attempt asked for is asked for again.
 fn ask_again(here: &mut WorkerContext) -> Result<(), AllocError>
-    ensures { (run : Execution) → here.old.worker.run ≡ Some run → OnOk result (here.new ≡ asks_again here.old run.phase) }
+    ensures done { (run : Execution) → here.old.worker.run ≡ Some run → OnOk result (here.new ≡ asks_again here.old run.phase) }
+    ensures err { OnErr result (here.new ≡ nothing_here) }
 {
     let Some(run) = &here.worker.run else {
         return Ok(());
@@ -78,7 +82,8 @@ fn ask_again(here: &mut WorkerContext) -> Result<(), AllocError>
 
 /// The Holds that wait are sent again.
 fn send_holds(here: &mut WorkerContext, holds: &SmallList<Holding>) -> Result<(), AllocError>
-    ensures { OnOk result (here.new ≡ sends_holds here.old holds.now) }
+    ensures done { OnOk result (here.new ≡ sends_holds here.old holds.now) }
+    ensures err { OnErr result (here.new ≡ nothing_here) }
 {
     for hold in holds.as_slice() {
         let holder = hold.holder;
@@ -90,7 +95,8 @@ fn send_holds(here: &mut WorkerContext, holds: &SmallList<Holding>) -> Result<()
 
 /// How the attempt stopped is told again, where that wasn't heard.
 fn send_stop(alloc: Global, here: &mut WorkerContext) -> Result<(), AllocError>
-    ensures { (run : Execution) → here.old.worker.run ≡ Some run → OnOk result (here.new ≡ sends_stop here.old run) }
+    ensures done { (run : Execution) → here.old.worker.run ≡ Some run → OnOk result (here.new ≡ sends_stop here.old run) }
+    ensures err { OnErr result (here.new ≡ nothing_here) }
 {
     let Some(run) = &here.worker.run else {
         return Ok(());
@@ -103,18 +109,20 @@ fn send_stop(alloc: Global, here: &mut WorkerContext) -> Result<(), AllocError>
 
 /// The own attempt's Holds that wait are sent again.
 fn send_own_holds(alloc: Global, here: &mut WorkerContext) -> Result<(), AllocError>
-    ensures { (run : Execution) → here.old.worker.run ≡ Some run → OnOk result (here.new ≡ sends_holds here.old run.holds) }
+    ensures done { (run : Execution) → here.old.worker.run ≡ Some run → OnOk result (here.new ≡ sends_holds here.old run.holds) }
+    ensures err { OnErr result (here.new ≡ nothing_here) }
 {
     let Some(run) = &here.worker.run else {
         return Ok(());
     };
-    let holds = run.holds.copy(alloc)?;
+    let holds = or_nothing(run.holds.copy(alloc), here)?;
     send_holds(here, &holds)
 }
 
 /// Of the own attempt, all that it waits for, and how it stopped.
 fn send_own(alloc: Global, here: &mut WorkerContext) -> Result<(), AllocError>
-    ensures { (run : Execution) → here.old.worker.run ≡ Some run → OnOk result (here.new ≡ sends_run here.old (Some run)) }
+    ensures done { (run : Execution) → here.old.worker.run ≡ Some run → OnOk result (here.new ≡ sends_run here.old (Some run)) }
+    ensures err { OnErr result (here.new ≡ nothing_here) }
 {
     ask_again(here)?;
     send_own_holds(alloc, here)?;
@@ -123,7 +131,8 @@ fn send_own(alloc: Global, here: &mut WorkerContext) -> Result<(), AllocError>
 
 /// The same, if there is one.
 fn send_run(alloc: Global, here: &mut WorkerContext) -> Result<(), AllocError>
-    ensures { OnOk result (here.new ≡ sends_run here.old here.old.worker.run) }
+    ensures done { OnOk result (here.new ≡ sends_run here.old here.old.worker.run) }
+    ensures err { OnErr result (here.new ≡ nothing_here) }
 {
     match &here.worker.run {
         None => Ok(()),
@@ -134,7 +143,8 @@ fn send_run(alloc: Global, here: &mut WorkerContext) -> Result<(), AllocError>
 /// The worker sends again what it waits for: Asks and Pushes of its tasks, what its own attempt asked for, its Holds, and how its attempt
 /// stopped.
 pub fn tick_step(alloc: Global, here: &mut WorkerContext) -> Result<(), AllocError>
-    ensures { OnOk result (here.new ≡ tick_step here.old) }
+    ensures done { OnOk result (here.new ≡ tick_step here.old) }
+    ensures err { OnErr result (here.new ≡ nothing_here) }
 {
     send_tasks(alloc, here)?;
     send_run(alloc, here)

@@ -1,1 +1,2 @@
 pub mod Looking
+pub use Rattle.worker_tables.specs.of_contexts as of_contexts

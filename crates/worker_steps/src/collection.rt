@@ -1,6 +1,7 @@
 // What objects of the dead held.
 
-ghost use Rattle.std.specs.Prelude.{◌≡◌, ◌++◌, ◌==◌, OnOk, map, not};
+ghost use Rattle.std.specs.Prelude.{◌≡◌, ◌++◌, ◌==◌, OnErr, OnOk, map, not};
+ghost use Rattle.worker_tables.specs.of_contexts.Emptied.{nothing_here};
 ghost use Rattle.std.specs.List.{filter};
 ghost use Rattle.protocol.specs.Tables.{holders_of};
 ghost use Rattle.protocol.specs.Steps.{own_id, own_object};
@@ -12,7 +13,7 @@ use number_lists::object_at_number;
 use protocol_data::{Holding, Message, Reason, WorkerContext};
 use sequence::Seq;
 use std::alloc::{AllocError, Global};
-use worker_tables::{holders_of, say};
+use worker_tables::{holders_of, or_nothing, say};
 
 /// The id of the least serial, of the first and these.
 fn first_born(first: ObjectId, others: &Seq<ObjectId>) -> ObjectId
@@ -33,7 +34,8 @@ fn drop_holders(
     object: ObjectId,
     holders: &Seq<ObjectId>,
 ) -> Result<(), AllocError>
-    ensures { OnOk result (here.new ≡ drops_holders here.old object holders.now) }
+    ensures done { OnOk result (here.new ≡ drops_holders here.old object holders.now) }
+    ensures err { OnErr result (here.new ≡ nothing_here) }
 {
     for holder in &holders.items {
         drop_dead_holder(here, object, *holder)?;
@@ -48,7 +50,8 @@ fn drop_first_born_first(
     object: ObjectId,
     holders: &Seq<ObjectId>,
 ) -> Result<(), AllocError>
-    ensures { OnOk result (here.new ≡ drops_holders here.old object (first_born_first holders.now)) }
+    ensures done { OnOk result (here.new ≡ drops_holders here.old object (first_born_first holders.now)) }
+    ensures err { OnErr result (here.new ≡ nothing_here) }
 {
     let Some(first) = holders.items.first() else {
         return Ok(());
@@ -64,12 +67,13 @@ fn drop_dead_by(
     worker: WorkerId,
     serial: u64,
 ) -> Result<(), AllocError>
-    ensures { OnOk result (here.new ≡ drops_dead_by here.old worker (own_id here.old serial) (own_object here.old serial)) }
+    ensures done { OnOk result (here.new ≡ drops_dead_by here.old worker (own_id here.old serial) (own_object here.old serial)) }
+    ensures err { OnErr result (here.new ≡ nothing_here) }
 {
     let Some(found) = object_at_number(&here.worker.objects, serial) else {
         return Ok(());
     };
-    let holders = holders_of(alloc, found, worker)?;
+    let holders = or_nothing(holders_of(alloc, found, worker), here)?;
     let owner = here.me;
     drop_first_born_first(here, ObjectId { owner, serial }, &holders)
 }
@@ -77,7 +81,8 @@ fn drop_dead_by(
 /// What the worker owns holds no own object any longer.
 #[tactic(auto, using(crate::proofs::EachLaws::each_step, crate::proofs::EachLaws::each_last))]
 fn drop_dead(alloc: Global, here: &mut WorkerContext, worker: WorkerId) -> Result<(), AllocError>
-    ensures { OnOk result (here.new ≡ drops_dead here.old worker) }
+    ensures done { OnOk result (here.new ≡ drops_dead here.old worker) }
+    ensures err { OnErr result (here.new ≡ nothing_here) }
 {
     let count = here.worker.objects.len() as u64;
     for place in 0..count {
@@ -92,7 +97,8 @@ fn let_go_of_dead(
     worker: WorkerId,
     passed: &Seq<Holding>,
 ) -> Result<(), AllocError>
-    ensures { OnOk result (here.new ≡ lets_go_of_dead here.old worker passed.now) }
+    ensures done { OnOk result (here.new ≡ lets_go_of_dead here.old worker passed.now) }
+    ensures err { OnErr result (here.new ≡ nothing_here) }
 {
     for hold in &passed.items {
         if hold.holder.owned_by(worker) {
@@ -109,9 +115,10 @@ fn let_go_of_dead(
 
 /// What the worker owns, which is dead, holds nothing any longer: no own object, and nothing that was passed on from here.
 pub fn collect(alloc: Global, here: &mut WorkerContext, worker: WorkerId) -> Result<(), AllocError>
-    ensures { OnOk result (here.new ≡ collects here.old worker) }
+    ensures done { OnOk result (here.new ≡ collects here.old worker) }
+    ensures err { OnErr result (here.new ≡ nothing_here) }
 {
-    let passed = here.worker.passed_on.copy(alloc)?;
+    let passed = or_nothing(here.worker.passed_on.copy(alloc), here)?;
     drop_dead(alloc, here, worker)?;
     let_go_of_dead(here, worker, &passed)
 }
@@ -140,8 +147,12 @@ pub fn pass_on(
     holder: ObjectId,
     ids: &Seq<ObjectId>,
 ) -> Result<(), AllocError>
-    ensures { OnOk result (here.new ≡ passes_on here.old holder ids.now) }
+    ensures done { OnOk result (here.new ≡ passes_on here.old holder ids.now) }
+    ensures err { OnErr result (here.new ≡ nothing_here) }
 {
     let me = here.me;
-    add_passed(&mut here.worker.passed_on, me, holder, ids)
+    or_nothing(
+        add_passed(&mut here.worker.passed_on, me, holder, ids),
+        here,
+    )
 }

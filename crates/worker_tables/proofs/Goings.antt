@@ -1,8 +1,8 @@
 -- What goes with an object.
 use Rattle.std.proofs.Common.{◌≡◌, Option, Some, sym, ap, ◌∙◌}
 use Rattle.meaning.specs.Values.{results_of}
-use Rattle.protocol.specs.Releases.{going_with}
-use Rattle.protocol.specs.Tables.{ByTask, Beside, ObjectSource, Object, OwnTask, WasPut, task_in, task_of}
+use Rattle.contexts.specs.of_protocol.Releases.{going_with}
+use Rattle.contexts.specs.of_protocol.Tables.{ByTask, Beside, ObjectSource, Object, OwnTask, WasPut, task_in, task_of}
 
 by_task : (m : ObjectSource) (task : OwnTask) → task_in m ≡ Some task → going_with m ≡ results_of task.spec
 by_task WasPut task e = absurd cc

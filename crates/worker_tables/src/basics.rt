@@ -1,40 +1,43 @@
 // What a worker logs and says.
 
-ghost use Rattle.std.specs.Prelude.{◌≡◌, OnOk, ◌==◌};
+ghost use Rattle.std.specs.Prelude.{◌≡◌, OnErr, OnOk, ◌==◌};
+ghost use Rattle.contexts.specs.Emptied.{nothing_here};
 ghost use Rattle.event_log.specs.Entries.{main_attempt};
-ghost use Rattle.protocol.specs.Tables.{has_stopped, knows_dead};
-ghost use Rattle.protocol.specs.Steps.{is_own, logs, says, says_to_node};
-ghost use Rattle.protocol.specs.Runs.{asks_for_slot, gives_slot_back};
+ghost use Rattle.contexts.specs.of_protocol.Tables.{has_stopped, knows_dead};
+ghost use Rattle.contexts.specs.of_protocol.Steps.{is_own, logs, says, says_to_node};
+ghost use Rattle.contexts.specs.of_protocol.Runs.{asks_for_slot, gives_slot_back};
 
+use contexts::or_nothing;
+use contexts::protocol_data::{Endpoint, Envelope, Message, Phase, Worker, WorkerContext};
 use ids::{AttemptId, NodeId, ObjectId, WorkerId};
 use lease::{blocked, log_there, post, unblocked};
 use log_entries::Entry;
 use number_lists::has_worker;
-use protocol_data::{Endpoint, Envelope, Message, Phase, Worker, WorkerContext};
 use std::alloc::{AllocError, Global};
 
 /// One more entry.
 #[inline(always)]
 pub fn log(here: &mut WorkerContext, entry: Entry) -> Result<(), AllocError>
-    ensures { OnOk result (here.new ≡ logs here.old entry) }
+    ensures done { OnOk result (here.new ≡ logs here.old entry) }
+    ensures err { OnErr result (here.new ≡ nothing_here) }
 {
-    log_there(&mut here.there, entry)
+    or_nothing(log_there(&mut here.there, entry), here)
 }
 
 /// The worker sends a message to a worker.
 #[inline(always)]
 pub fn say(here: &mut WorkerContext, worker: WorkerId, message: Message) -> Result<(), AllocError>
-    ensures { OnOk result (here.new ≡ says here.old worker message) }
+    ensures done { OnOk result (here.new ≡ says here.old worker message) }
+    ensures err { OnErr result (here.new ≡ nothing_here) }
 {
     let sender = Endpoint::TheWorker(here.me);
-    post(
-        &mut here.there,
-        Envelope {
-            sender,
-            receiver: Endpoint::TheWorker(worker),
-            message,
-        },
-    )
+    let receiver = Endpoint::TheWorker(worker);
+    let envelope = Envelope {
+        sender,
+        receiver,
+        message,
+    };
+    or_nothing(post(&mut here.there, envelope), here)
 }
 
 /// The worker sends a message to a node.
@@ -44,33 +47,35 @@ pub fn say_to_node(
     node: NodeId,
     message: Message,
 ) -> Result<(), AllocError>
-    ensures { OnOk result (here.new ≡ says_to_node here.old node message) }
+    ensures done { OnOk result (here.new ≡ says_to_node here.old node message) }
+    ensures err { OnErr result (here.new ≡ nothing_here) }
 {
     let sender = Endpoint::TheWorker(here.me);
-    post(
-        &mut here.there,
-        Envelope {
-            sender,
-            receiver: Endpoint::TheNode(node),
-            message,
-        },
-    )
+    let receiver = Endpoint::TheNode(node);
+    let envelope = Envelope {
+        sender,
+        receiver,
+        message,
+    };
+    or_nothing(post(&mut here.there, envelope), here)
 }
 
 /// The worker's slot is given back.
 pub fn give_slot_back(alloc: Global, here: &mut WorkerContext) -> Result<(), AllocError>
-    ensures { OnOk result (here.new ≡ gives_slot_back here.old) }
+    ensures done { OnOk result (here.new ≡ gives_slot_back here.old) }
+    ensures err { OnErr result (here.new ≡ nothing_here) }
 {
     let me = here.me;
-    blocked(alloc, &mut here.there, me)
+    or_nothing(blocked(alloc, &mut here.there, me), here)
 }
 
 /// The worker's answered attempt asks for its slot.
 pub fn ask_for_slot(alloc: Global, here: &mut WorkerContext) -> Result<(), AllocError>
-    ensures { OnOk result (here.new ≡ asks_for_slot here.old) }
+    ensures done { OnOk result (here.new ≡ asks_for_slot here.old) }
+    ensures err { OnErr result (here.new ≡ nothing_here) }
 {
     let me = here.me;
-    unblocked(alloc, &mut here.there, me)
+    or_nothing(unblocked(alloc, &mut here.there, me), here)
 }
 
 /// Whether the worker owns the object.

@@ -1,11 +1,11 @@
 // Which holders of an object a worker owns.
 
 ghost use Rattle.std.specs.Prelude.{◌≡◌, ◌==◌, IfOk};
-ghost use Rattle.protocol.specs.Tables.{holders_of};
+ghost use Rattle.contexts.specs.of_protocol.Tables.{holders_of};
 
+use contexts::protocol_data::Object;
 use ids::{ObjectId, WorkerId};
 use number_lists::has_object;
-use protocol_data::Object;
 use sequence::Seq;
 use std::alloc::{AllocError, Global};
 

@@ -1,5 +1,5 @@
-//! What a worker's tables say, what the worker logs and sends, and what of a content goes into the tables. An error is want of memory, and then nothing is
-//! said of the tables.
+//! What a worker's tables say, what the worker logs and sends, and what of a content goes into the tables. An error is want of memory; where
+//! the worker and its node are changed, nothing is left of them then.
 #![tactic(auto, unfolding(meaning::specs::Births::same_id, ids::specs::Attempts::same_attempt))]
 
 mod basics;
@@ -15,6 +15,7 @@ pub use basics::{
     say_to_node,
 };
 pub use contents::{convert, ids_in_content, if_small};
+pub use contexts::or_nothing;
 pub use holders::holders_of;
 pub use locations::{
     chosen_location, is_pending, is_pending_task, is_pending_with, is_present, is_waiting_for,

@@ -1,13 +1,13 @@
 // What a worker's tables say of where contents are: which objects are waited for, pending or present, and at which node one is.
 
 ghost use Rattle.std.specs.Prelude.{◌≡◌};
-ghost use Rattle.protocol.specs.Numbered.{item_at};
-ghost use Rattle.protocol.specs.Tables.{chosen_location, is_pending, is_pending_by, is_pending_task, is_waiting_for, live_location, task_in, task_of};
-ghost use Rattle.protocol.specs.Locations.{is_present, may_gain_location};
+ghost use Rattle.contexts.specs.of_protocol.Numbered.{item_at};
+ghost use Rattle.contexts.specs.of_protocol.Tables.{chosen_location, is_pending, is_pending_by, is_pending_task, is_waiting_for, live_location, task_in, task_of};
+ghost use Rattle.contexts.specs.of_protocol.Locations.{is_present, may_gain_location};
 
+use contexts::protocol_data::{Object, ObjectSource, Objects, OwnTask, Phase, Progress, Worker};
 use ids::{NodeId, ObjectId};
 use number_lists::{first_node, has_node, object_at_number};
-use protocol_data::{Object, ObjectSource, Objects, OwnTask, Phase, Progress, Worker};
 use sequence::Seq;
 
 /// Whether the worker's attempt waits for the object.

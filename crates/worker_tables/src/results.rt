@@ -2,15 +2,15 @@
 
 ghost use Rattle.std.specs.Prelude.{◌≡◌, ◌≤◌, ◌+◌, ◌^◌, Some};
 ghost use Rattle.meaning.specs.Values.{results_of};
-ghost use Rattle.protocol.specs.Numbered.{item_at};
-ghost use Rattle.protocol.specs.Releases.{going_with};
-ghost use Rattle.protocol.specs.Tables.{task_of};
-ghost use Rattle.protocol_data.specs.declared.tables.Object.{Object};
-ghost use Rattle.protocol_data.specs.declared.tables.OwnTask.{OwnTask};
+ghost use Rattle.contexts.specs.of_protocol.Numbered.{item_at};
+ghost use Rattle.contexts.specs.of_protocol.Releases.{going_with};
+ghost use Rattle.contexts.specs.of_protocol.Tables.{task_of};
+ghost use Rattle.contexts.specs.of_protocol_data.declared.tables.Object.{Object};
+ghost use Rattle.contexts.specs.of_protocol_data.declared.tables.OwnTask.{OwnTask};
 
+use contexts::protocol_data::{ObjectSource, Objects};
 use held::SharedBirth;
 use number_lists::place_of;
-use protocol_data::{ObjectSource, Objects};
 use task_spec::Birth;
 
 /// How many objects the birth makes: of a put value one, of a task one for each result.

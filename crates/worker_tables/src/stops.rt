@@ -1,13 +1,15 @@
 // How an owner is told that an attempt of its task stopped.
 
-ghost use Rattle.std.specs.Prelude.{◌≡◌, OnOk, IfOk, Some, map};
-ghost use Rattle.protocol.specs.Runs.{ended_result, tells_stop};
-ghost use Rattle.protocol_data.specs.declared.tables.Execution.{Execution};
+ghost use Rattle.std.specs.Prelude.{◌≡◌, OnErr, OnOk, IfOk, Some, map};
+ghost use Rattle.contexts.specs.Emptied.{nothing_here};
+ghost use Rattle.contexts.specs.of_protocol.Runs.{ended_result, tells_stop};
+ghost use Rattle.contexts.specs.of_protocol_data.declared.tables.Execution.{Execution};
 
 use crate::basics::say;
 use crate::contents::{ids_in_content, if_small};
+use contexts::or_nothing;
+use contexts::protocol_data::{EndedResult, Message, Phase, SmallList, WorkerContext};
 use held::SharedContent;
-use protocol_data::{EndedResult, Message, Phase, SmallList, WorkerContext};
 use std::alloc::{AllocError, Global};
 
 /// What is told of a result with that content: the ids in it, and itself if it is small.
@@ -35,7 +37,8 @@ fn ended_results(
 
 /// The owner is told how the attempt stopped.
 pub fn tell_stop(alloc: Global, here: &mut WorkerContext) -> Result<(), AllocError>
-    ensures { (run : Execution) → here.old.worker.run ≡ Some run → OnOk result (here.new ≡ tells_stop here.old run run.phase) }
+    ensures done { (run : Execution) → here.old.worker.run ≡ Some run → OnOk result (here.new ≡ tells_stop here.old run run.phase) }
+    ensures err { OnErr result (here.new ≡ nothing_here) }
 {
     let Some(run) = &here.worker.run else {
         return Ok(());
@@ -44,7 +47,7 @@ pub fn tell_stop(alloc: Global, here: &mut WorkerContext) -> Result<(), AllocErr
     let owner = attempt.owner();
     match &run.phase {
         Phase::HasEnded(contents) => {
-            let results = ended_results(alloc, contents)?;
+            let results = or_nothing(ended_results(alloc, contents), here)?;
             let node = here.worker.node;
             say(here, owner, Message::Finished(attempt, node, results))
         }

@@ -1,13 +1,13 @@
 // Which objects nothing needs any more.
 
 ghost use Rattle.std.specs.Prelude.{◌≡◌};
-ghost use Rattle.protocol.specs.Numbered.{item_at};
-ghost use Rattle.protocol.specs.Tables.{is_bearer_over};
-ghost use Rattle.protocol.specs.Releases.{is_unneeded, is_unneeded_at};
+ghost use Rattle.contexts.specs.of_protocol.Numbered.{item_at};
+ghost use Rattle.contexts.specs.of_protocol.Tables.{is_bearer_over};
+ghost use Rattle.contexts.specs.of_protocol.Releases.{is_unneeded, is_unneeded_at};
 
 use borrow::is_held;
+use contexts::protocol_data::{Object, Objects, Worker};
 use number_lists::object_at_number;
-use protocol_data::{Object, Objects, Worker};
 
 /// Whether the attempt that bore it is over.
 pub fn is_bearer_over(worker: &Worker, object: &Object) -> bool

@@ -20,7 +20,7 @@ returns-clause-whole c =
     subst (λ m. OnOk c.leave.result (c.leave.new.whole ≡ m.whole))
     (worker_done old t.new.whole c.in-Some.place c.in-Some-node_place.node_place c.args.number c.args.here.now.worker c.deref.result.now c.args.here.now.there.node
     t.new.here.there.node f t.new.here c.take_part.new.here there.1 there.0 beside.1 beside.0 t.ensures.left stood t.ensures.node_taken begun
-    (c.in_ok-take_part.ensures ∙ ap (λ m. release_step (act_step m.network c.args.what.now t.new.here)) t.ensures.left))
+    (c.in_ok-take_part.ensures.done ∙ ap (λ m. release_step (act_step m.network c.args.what.now t.new.here)) t.ensures.left))
     c.leave.ensures.whole
 
 pub returns-clause-entries : goal.returns-clause-entries
@@ -37,5 +37,5 @@ returns-clause-entries c =
     subst (λ m. OnOk c.leave.result (c.leave.new.here.there.out.entries ≡ m.out.entries))
     (worker_done old t.new.whole c.in-Some.place c.in-Some-node_place.node_place c.args.number c.args.here.now.worker c.deref.result.now c.args.here.now.there.node
     t.new.here.there.node f t.new.here c.take_part.new.here there.1 there.0 beside.1 beside.0 t.ensures.left stood t.ensures.node_taken begun
-    (c.in_ok-take_part.ensures ∙ ap (λ m. release_step (act_step m.network c.args.what.now t.new.here)) t.ensures.left))
+    (c.in_ok-take_part.ensures.done ∙ ap (λ m. release_step (act_step m.network c.args.what.now t.new.here)) t.ensures.left))
     c.leave.ensures.entries

@@ -36,7 +36,7 @@ returns-in-Ok-clause-whole c =
     subst (λ m. OnOk c.put_within.result (c.put_within.new.whole ≡ whole_within c.args.made old m))
     (worker_done old t.new.whole c.in-Some.place c.in-Some-node_place.node_place c.args.number c.args.here.now.worker c.deref.result.now c.args.here.now.there.node
     t.new.here.there.node f t.new.here c.take_part.new.here there.1 there.0 beside.1 beside.0 t.ensures.left stood t.ensures.node_taken begun
-    (subst (λ r. OnOk r (c.take_part.new.here ≡ release_step (act_step t.new.whole.network c.args.what.now t.new.here))) c.in-Ok.is c.take_part.ensures
+    (subst (λ r. OnOk r (c.take_part.new.here ≡ release_step (act_step t.new.whole.network c.args.what.now t.new.here))) c.in-Ok.is c.take_part.ensures.done
     ∙ ap (λ m. release_step (act_step m.network c.args.what.now t.new.here)) t.ensures.left))
     (c.put_within.ensures.whole old c.args.here.now.worker c.args.here.now.there.node (t.ensures.left, c.in_ok-kept.ensures))
 
@@ -54,6 +54,6 @@ returns-in-Ok-clause-entries c =
     subst (λ m. IfOk c.put_within.result (λ taken. if_taken taken c.put_within.new.here.there.out.entries ≡ entries_within c.args.made m))
     (worker_done old t.new.whole c.in-Some.place c.in-Some-node_place.node_place c.args.number c.args.here.now.worker c.deref.result.now c.args.here.now.there.node
     t.new.here.there.node f t.new.here c.take_part.new.here there.1 there.0 beside.1 beside.0 t.ensures.left stood t.ensures.node_taken begun
-    (subst (λ r. OnOk r (c.take_part.new.here ≡ release_step (act_step t.new.whole.network c.args.what.now t.new.here))) c.in-Ok.is c.take_part.ensures
+    (subst (λ r. OnOk r (c.take_part.new.here ≡ release_step (act_step t.new.whole.network c.args.what.now t.new.here))) c.in-Ok.is c.take_part.ensures.done
     ∙ ap (λ m. release_step (act_step m.network c.args.what.now t.new.here)) t.ensures.left))
     c.put_within.ensures.entries

@@ -1,5 +1,5 @@
 use Rattle.std.proofs.Common.{◌≡◌, ◌++◌, drop}
-use Rattle.protocol.specs.Cluster.{undelivered}
+use Rattle.contexts.specs.of_protocol.Cluster.{undelivered}
 use Rattle.cluster_steps.proofs.put_back.add_undelivered.Given as goal
 
 abbrev pub invariant-loop-envelope : goal.invariant-loop-envelope

@@ -1,6 +1,6 @@
 use Rattle.std.proofs.Common.{◌≡◌, ◌++◌, ◌-◌}
-use Rattle.protocol.specs.Sets.{repeated}
-use Rattle.protocol.specs.Tables.{new_worker}
+use Rattle.contexts.specs.of_protocol.Sets.{repeated}
+use Rattle.contexts.specs.of_protocol.Tables.{new_worker}
 use Rattle.cluster_steps.proofs.put_back.add_workers.Given as goal
 
 abbrev pub invariant-loop-turn : goal.invariant-loop-turn

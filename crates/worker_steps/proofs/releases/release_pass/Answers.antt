@@ -4,14 +4,14 @@ use Rattle.protocol.specs.Steps.{each_from, own_object}
 use Rattle.worker_steps.proofs.Looking.{one_released, passed_all}
 use Rattle.worker_steps.proofs.releases.release_pass.Goals as goal
 
-pub returns-then-next-count : goal.returns-then-next-count
-returns-then-next-count c =
+pub returns-then-next-count-clause-done : goal.returns-then-next-count-clause-done
+returns-then-next-count-clause-done c =
     sym (passed_all _ _ _ _ c.next_place_here-next.ensures.on (omega (arith, c.if-next-count.true)) c.next_place_here-next.ensures.none)
     ∙ c.loop-turn.invariant.0
     ∙ ap (λ n. each_from (λ g k. releases_by g k (own_object g k)) c.args.here.now 1 n) c.count_of-count.ensures.len
 
 pub loop-turn-preserved : goal.loop-turn-preserved
 loop-turn-preserved c = (
-  one_released _ _ _ _ _ _ c.next_place_here-next.ensures.on c.next_place_here-next.ensures.none (omega (arith, c.if-next-count.false)) c.in_ok-release_by.ensures c.loop-turn.invariant.0,
+  one_released _ _ _ _ _ _ c.next_place_here-next.ensures.on c.next_place_here-next.ensures.none (omega (arith, c.if-next-count.false)) c.in_ok-release_by.ensures.done c.loop-turn.invariant.0,
   omega (arith, c.loop-turn.invariant.1, c.next_place_here-next.ensures.on),
 )

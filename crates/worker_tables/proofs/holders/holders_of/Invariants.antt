@@ -1,8 +1,8 @@
 use Rattle.std.proofs.Common.{◌≡◌, ◌++◌, drop, not}
 use Rattle.std.specs.Prelude.{◌&&◌, ◌==◌}
 use Rattle.std.specs.List.{filter}
-use Rattle.protocol.specs.Sets.{has_id}
-use Rattle.protocol.specs.Tables.{holders_of}
+use Rattle.contexts.specs.of_protocol.Sets.{has_id}
+use Rattle.contexts.specs.of_protocol.Tables.{holders_of}
 use Rattle.worker_tables.proofs.holders.holders_of.Given as goal
 
 abbrev pub invariant-loop-holder : goal.invariant-loop-holder

@@ -1,5 +1,5 @@
 use Rattle.std.proofs.Common.{◌≡◌, drop}
-use Rattle.protocol.specs.Tables.{live_location}
+use Rattle.contexts.specs.of_protocol.Tables.{live_location}
 use Rattle.worker_tables.proofs.locations.live_location.Given as goal
 
 abbrev pub invariant-loop-node : goal.invariant-loop-node

@@ -1,5 +1,5 @@
 use Rattle.std.proofs.Common.{◌≡◌, map, take}
-use Rattle.protocol.specs.Runs.{ended_result}
+use Rattle.contexts.specs.of_protocol.Runs.{ended_result}
 use Rattle.worker_tables.proofs.stops.ended_results.Given as goal
 
 abbrev pub invariant-loop-content : goal.invariant-loop-content

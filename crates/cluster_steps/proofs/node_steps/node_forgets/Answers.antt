@@ -1,8 +1,8 @@
 use Rattle.std.proofs.Common.{◌≡◌, OnOk, sym, ap, ◌∙◌, subst}
-use Rattle.protocol.specs.Slots.{forgets}
-use Rattle.protocol.specs.Cluster.{node_does_by}
+use Rattle.contexts.specs.of_protocol.Slots.{forgets}
+use Rattle.contexts.specs.of_protocol.Cluster.{node_does_by}
 use Rattle.cluster_steps.proofs.Returns.{node_done}
-use Rattle.cluster_steps.proofs.node_steps.forget_at_node.Goals as goal
+use Rattle.cluster_steps.proofs.node_steps.node_forgets.Goals as goal
 
 pub returns-in_default-clause-whole : goal.returns-in_default-clause-whole
 returns-in_default-clause-whole c = sym (ap (λ o. (node_does_by c.args.whole.now c.args.number (λ h. forgets h c.args.worker) o).whole) c.in_default.ensures.none)

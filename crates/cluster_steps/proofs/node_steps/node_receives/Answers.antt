@@ -1,9 +1,9 @@
 use Rattle.std.proofs.Common.{◌≡◌, OnOk, sym, ap, ◌∙◌, subst}
-use Rattle.protocol.specs.Numbered.{item_at}
-use Rattle.protocol.specs.Cluster.{node_does_by}
+use Rattle.contexts.specs.of_protocol.Numbered.{item_at}
+use Rattle.contexts.specs.of_protocol.Cluster.{node_does_by}
 use Rattle.cluster_steps.specs.Reached.{node_received}
 use Rattle.cluster_steps.proofs.Returns.{node_done}
-use Rattle.cluster_steps.proofs.node_steps.deliver_to_node.Goals as goal
+use Rattle.cluster_steps.proofs.node_steps.node_receives.Goals as goal
 
 pub returns-in_default-clause-whole : goal.returns-in_default-clause-whole
 returns-in_default-clause-whole c = sym (ap (λ o. (node_does_by c.args.whole.now c.args.number (λ h. node_received h (item_at c.args.whole.now.network c.args.message)) o).whole) c.in_default.ensures.none)

@@ -2,7 +2,7 @@ use Rattle.std.proofs.Common.{◌≡◌, IfOk, OnOk, sym, subst}
 use Rattle.step_laws.specs.Limits.{entries_limited, whole_limited}
 use Rattle.protocol.specs.Events.{happens}
 use Rattle.cluster_events.specs.Told.{if_taken}
-use Rattle.cluster_events.proofs.happening.happen.Goals as goal
+use Rattle.cluster_events.proofs.happening.try_event.Goals as goal
 
 pub returns-in-Notice-clause-whole : goal.returns-in-Notice-clause-whole
 returns-in-Notice-clause-whole c =

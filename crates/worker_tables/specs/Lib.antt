@@ -1,0 +1,1 @@
+pub use Rattle.contexts.specs as of_contexts

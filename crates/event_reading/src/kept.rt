@@ -1,6 +1,6 @@
 // What is kept of the lines of an event file.
 
-ghost use Rattle.std.specs.Prelude.{◌≡◌, ℕ, Bool, List, [], ◌∷◌, ◌++◌, OnOk};
+ghost use Rattle.std.specs.Prelude.{◌≡◌, ℕ, Bool, List, [], ◌∷◌, ◌++◌, OnErr, OnOk};
 ghost use Rattle.event_reading.specs.Kept.{IsKeptOf};
 
 use event_files::MOST_EVENTS;
@@ -23,6 +23,23 @@ pub struct Kept<T> {
     pub events: usize,
 }
 
+/// Adds what a line says, and its number. On an error both lists are as they were.
+fn add_line<T: Drop>(
+    says: &mut Seq<T>,
+    numbers: &mut Seq<usize>,
+    said: T,
+    number: usize,
+) -> Result<(), AllocError>
+    ensures says { OnOk result (says.new ≡ says.old ++ said ∷ []) }
+    ensures numbers { OnOk result (numbers.new ≡ numbers.old ++ number ∷ []) }
+    ensures err { OnErr result ((says.new ≡ says.old) × (numbers.new ≡ numbers.old)) }
+{
+    numbers.items.reserve(1)?;
+    says.push(said)?;
+    numbers.items.push_reserved(number);
+    Ok(())
+}
+
 impl<T: Drop> Kept<T> {
     /// Nothing yet.
     pub fn new(alloc: Global) -> Kept<T>
@@ -36,17 +53,18 @@ impl<T: Drop> Kept<T> {
         }
     }
 
-    /// Keeps what the line of that number says, which is an event or none, unless there are events enough.
+    /// Keeps what the line of that number says, which is an event or none, unless there are events enough. An error is want of memory, and leaves all as
+    /// it was.
     pub fn keep(&mut self, said: T, number: usize, is_event: bool) -> Result<(), AllocError>
-        ensures { OnOk result ((counts : T → Bool) (all : List T) (numbers : List ℕ) → counts said ≡ is_event → IsKeptOf counts all numbers self.old →
+        ensures done { OnOk result ((counts : T → Bool) (all : List T) (numbers : List ℕ) → counts said ≡ is_event → IsKeptOf counts all numbers self.old →
             IsKeptOf counts (all ++ said ∷ []) (numbers ++ number ∷ []) self.new) }
+        ensures err { OnErr result (self.new ≡ self.old) }
     {
         if self.events > MOST_EVENTS {
             self.is_whole = false;
             return Ok(());
         }
-        self.says.push(said)?;
-        self.numbers.push(number)?;
+        add_line(&mut self.says, &mut self.numbers, said, number)?;
         if is_event {
             self.events += 1;
         }

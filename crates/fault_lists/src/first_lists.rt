@@ -42,7 +42,7 @@ impl FirstLists {
         }
     }
 
-    /// Adds a list, which is kept where fewer are than may be. An error is want of memory.
+    /// Adds a list, which is kept where fewer are than may be. An error is want of memory, and leaves all as it was.
     #[tactic(auto, using(crate::proofs::Firsts::kept, crate::proofs::Firsts::counted))]
     pub fn add(
         &mut self,
@@ -51,7 +51,8 @@ impl FirstLists {
         fault: Event,
         notice: Option<Event>,
     ) -> Result<(), AllocError>
-        ensures { OnOk result (Adds self.old (record { place = place; fault = fault; notice = notice } ∷ []) self.new) }
+        ensures done { OnOk result (Adds self.old (record { place = place; fault = fault; notice = notice } ∷ []) self.new) }
+        ensures err { OnErr result (self.new ≡ self.old) }
     {
         let count = next_count(alloc, self.count)?;
         if self.first.len() < self.most {

@@ -1,6 +1,6 @@
 // What a log has of workers, nodes and objects so far.
 
-ghost use Rattle.std.specs.Prelude.{◌≡◌, ◌++◌, IfOk, OnOk};
+ghost use Rattle.std.specs.Prelude.{◌≡◌, ◌++◌, IfOk, OnErr, OnOk};
 ghost use Rattle.fault_lists.specs.Lists.{first_seen, one_more, with_entry, with_event};
 
 use ids::{ObjectId, WorkerId};
@@ -54,16 +54,22 @@ impl Seen {
         }
     }
 
-    /// Notes what came of an event.
+    /// Notes what came of an event. An error is want of memory, and then nothing is left but how many nodes there are.
     pub fn note(&mut self, entry: &Entry) -> Result<(), AllocError>
-        ensures { OnOk result (self.new ≡ with_entry entry.now self.old) }
+        ensures done { OnOk result (self.new ≡ with_entry entry.now self.old) }
+        ensures err { OnErr result (self.new ≡ first_seen self.old.nodes) }
     {
-        match entry {
+        let came = match entry {
             Entry::Opened { worker, .. } => self.workers.push(*worker),
             Entry::Born { object, birth, .. } => {
                 add_objects(&mut self.objects.items, *object, &birth.inner)
             }
             _ => Ok(()),
+        };
+        if came.is_err() {
+            self.workers.items.clear();
+            self.objects.items.clear();
         }
+        came
     }
 }

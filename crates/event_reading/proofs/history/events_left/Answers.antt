@@ -29,7 +29,7 @@ pub loop-number-preserved : goal.loop-number-preserved
 loop-number-preserved g c =
     let next = subst (λ w. IfKnown (left_of c.loop-number.ahead.items (g.R.Source.left c.loop-number.reader))
     (left_of c.next_recorded.new.ahead.items (g.R.Source.left c.next_recorded.new.reader)) (IsNextLine IsRecorded recorded_text recorded_in w)) c.in-Said.is c.in_ok-next_recorded.ensures.next in
-    (c.in_ok-next_recorded.ensures.unfailed ∙ c.loop-number.invariant.0, reading_says each_is_event IsRecorded recorded_text recorded_in reads_recorded 2 c.loop-number.number c.loop-number.kept c.keep.new.self c.in-Said.said _ _ _ c.loop-number.invariant.1 next (λ all numbers. c.in_ok-keep-in-Said.ensures each_is_event all numbers refl))
+    (c.in_ok-next_recorded.ensures.unfailed ∙ c.loop-number.invariant.0, reading_says each_is_event IsRecorded recorded_text recorded_in reads_recorded 2 c.loop-number.number c.loop-number.kept c.keep.new.self c.in-Said.said _ _ _ c.loop-number.invariant.1 next (λ all numbers. c.in_ok-keep-in-Said.ensures.done each_is_event all numbers refl))
 
 pub loop-number-init : goal.loop-number-init
 loop-number-init g c = (refl, reading_begins each_is_event IsRecorded recorded_text 2 c.new-kept.result _ (c.new-kept.ensures each_is_event))

@@ -40,7 +40,7 @@ loop-number-preserved g c =
     (left_of c.next_line.new.ahead.items (g.R.Source.left c.next_line.new.reader)) (IsNextLine IsLine line_text line_in w)) c.in-Said.is c.in_ok-next_line.ensures.next in
     let room = subst (λ w. c.loop-number.room ≡ c.next_line.new.room + settled_by w) c.in-Said.is c.in_ok-next_line.ensures.taken in (
       c.in_ok-next_line.ensures.unfailed ∙ c.loop-number.invariant.0,
-      reading_says is_event_line IsLine line_text line_in reads_lines 1 c.loop-number.number c.loop-number.kept c.keep.new.self c.in-Said.line _ _ _ c.loop-number.invariant.1 next (λ all numbers. c.in_ok-keep-in-Said.ensures is_event_line all numbers (sym c.is_event-counts.ensures)),
+      reading_says is_event_line IsLine line_text line_in reads_lines 1 c.loop-number.number c.loop-number.kept c.keep.new.self c.in-Said.line _ _ _ c.loop-number.invariant.1 next (λ all numbers. c.in_ok-keep-in-Said.ensures.done is_event_line all numbers (sym c.is_event-counts.ensures)),
       room_says c.loop-number.room c.next_line.new.room c.in-Said.line _ _ _ room c.loop-number.invariant.2 next,
     )
 

@@ -16,7 +16,7 @@ returns c =
             passed c.args.choice c.args.place c.args.seen.now c.note.new.self (drop k log) (drop (k + 1) log) x
             (drop_more log k x c.requires.there ∙ ap (λ y. y ∷ drop (k + 1) log) (sym c.index-log-k.is))
             c.in_default.not-In
-            c.in_ok-note.ensures;
+            c.in_ok-note.ensures.done;
       };
       few = omega (arith, c.requires.few);
     }

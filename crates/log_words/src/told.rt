@@ -1,6 +1,6 @@
 // What has been told when an entry comes.
 
-ghost use Rattle.std.specs.Prelude.{◌≡◌, ◌+◌, ◌++◌, ◌<◌, ◌≤◌, ◌^◌, OnOk, [], if◌then◌else◌, drop};
+ghost use Rattle.std.specs.Prelude.{◌≡◌, ◌+◌, ◌++◌, ◌<◌, ◌≤◌, ◌^◌, OnErr, OnOk, [], if◌then◌else◌, drop};
 ghost use Rattle.report_text.specs.of_event_log.Events.{claim_in, from_one, refused_next};
 ghost use Rattle.log_words.specs.Told.{nothing_told, told_after, told_of};
 
@@ -17,10 +17,11 @@ pub struct Told {
     pub jobs: Vec<WorkerId>,
 }
 
-/// Notes the job that an accepted event gives out.
+/// Notes the job that an accepted event gives out. On an error the jobs are as they were.
 fn note_job(jobs: &mut Vec<WorkerId>, event: &Event, is_refused: bool) -> Result<(), AllocError>
-    ensures { OnOk result (jobs.new.items
+    ensures done { OnOk result (jobs.new.items
         ≡ jobs.old.items ++ (if is_refused then [] else claim_in event.now)) }
+    ensures err { OnErr result (jobs.new ≡ jobs.old) }
 {
     if is_refused {
         return Ok(());
@@ -63,11 +64,13 @@ impl Told {
         }
     }
 
-    /// Counts an event, and notes the worker of a claim that was taken; any other entry changes nothing.
+    /// Counts an event, and notes the worker of a claim that was taken; any other entry changes nothing. An error is want of memory, and then
+    /// all is as it was.
     pub fn note(&mut self, entry: &Entry, is_refused: bool) -> Result<(), AllocError>
         requires { self.old.events + 1 < 2 ^ 64 }
         ensures told { OnOk result (told_of self.new ≡ told_after (told_of self.old) entry.now is_refused) }
         ensures counted { self.new.events ≤ self.old.events + 1 }
+        ensures err { OnErr result (told_of self.new ≡ told_of self.old) }
     {
         let Entry::In { event, .. } = entry else {
             return Ok(());

@@ -1,6 +1,6 @@
 // The objects that a birth makes, as values of code.
 
-ghost use Rattle.std.specs.Prelude.{◌≡◌, ◌≤◌, ◌+◌, ◌^◌, ◌++◌, IfOk, OnOk, OnErr};
+ghost use Rattle.std.specs.Prelude.{◌≡◌, ◌≤◌, ◌+◌, ◌^◌, ◌++◌, IfOk, OnOk, OnErr, []};
 ghost use Rattle.meaning.specs.Values.{others_of};
 ghost use Rattle.meaning.specs.Births.{is_made_by};
 ghost use Rattle.meaning.specs.Runs.{ids_from, past};
@@ -56,15 +56,20 @@ fn add_from(objects: &mut Vec<ObjectId>, first: ObjectId, count: u64) -> Result<
     Ok(())
 }
 
-/// Adds the objects of the birth whose first object is this, in order.
+/// Adds the objects of the birth whose first object is this, in order. An error is want of memory, and then none is left.
 #[tactic(auto, unfolding(crate::specs::Made::objects_made))]
 pub fn add_objects(
     objects: &mut Vec<ObjectId>,
     object: ObjectId,
     birth: &Birth,
 ) -> Result<(), AllocError>
-    ensures { OnOk result (objects.new.items ≡ objects.old.items ++ objects_made object (birth_of birth.now)) }
+    ensures done { OnOk result (objects.new.items ≡ objects.old.items ++ objects_made object (birth_of birth.now)) }
+    ensures err { OnErr result (objects.new.items ≡ []) }
 {
     let others = u64::from(others_of(birth));
-    add_from(objects, object, others + 1)
+    let came = add_from(objects, object, others + 1);
+    if came.is_err() {
+        objects.clear();
+    }
+    came
 }

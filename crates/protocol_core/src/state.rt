@@ -12,7 +12,7 @@ use crate::opening::first_whole;
 use cluster_steps::{blank_context, clear_cluster, clear_context};
 use ids::{AttemptId, NodeId, ObjectId, WorkerId};
 use log_entries::Entry;
-use protocol_data::{ClusterState, WorkerContext, Workers};
+use protocol_data::{ClusterState, WorkerContext};
 use sequence::Seq;
 use std::alloc::{AllocError, Global};
 

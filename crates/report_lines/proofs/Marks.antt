@@ -36,3 +36,17 @@ pub row_written_in : (inside rows : List (List Bool)) (k j n s : ℕ) (row longe
     is_set (row_of (slice_set inside k longer) j) n ≡ (is_set (row_of rows j) n || ((j == k) && (n == s)))
 row_written_in inside rows k j n s row longer none e l g h =
     ap (λ rs. is_set (row_of (slice_set rs k longer) j) n) e ∙ row_written rows k j n s row longer none l (g ∙ ap (λ rs. get_or rs k none) e) h
+
+-- a row with no more marks, in the place of the owner's row
+row_kept : (rows : List (List Bool)) (k j n : ℕ) (row longer none : List Bool) → k < length rows → row ≡ get_or rows k none →
+    ((m : ℕ) → is_set longer m ≡ is_set row m) → is_set (row_of (slice_set rows k longer) j) n ≡ is_set (row_of rows j) n
+row_kept [] k j n row longer none l g h = absurd (omega arith)
+row_kept (z ∷ rows) zero zero n row longer none l g h = h n ∙ ap (λ r. is_set r n) g
+row_kept (z ∷ rows) zero (suc j) n row longer none l g h = refl
+row_kept (z ∷ rows) (suc k) zero n row longer none l g h = refl
+row_kept (z ∷ rows) (suc k) (suc j) n row longer none l g h = row_kept rows k j n row longer none (omega arith) g h
+
+pub row_kept_in : (inside rows : List (List Bool)) (k j n : ℕ) (row longer none : List Bool) → inside ≡ rows → k < length rows → row ≡ get_or inside k none →
+    ((m : ℕ) → is_set longer m ≡ is_set row m) → is_set (row_of (slice_set inside k longer) j) n ≡ is_set (row_of rows j) n
+row_kept_in inside rows k j n row longer none e l g h =
+    ap (λ rs. is_set (row_of (slice_set rs k longer) j) n) e ∙ row_kept rows k j n row longer none l (g ∙ ap (λ rs. get_or rs k none) e) h

@@ -1,6 +1,6 @@
 -- Whether a log says something of an attempt.
 use Rattle.std.proofs.Common.{◌≡◌, ℕ, Bool, true, false, if◌then◌else◌, ◌&&◌, ◌||◌, ◌+◌, ◌<◌, ◌==◌, List, [], ◌∷◌, ◌++◌, length, take, drop, get_or, refl, sym, ap, ◌∙◌, append-nil, add-one, arith}
-use Rattle.std.specs.Prelude.{Option, Result, Ok, Err, OnOk}
+use Rattle.std.specs.Prelude.{Option, Result, Ok, Err, OnErr, OnOk}
 use Rattle.std.specs.List.{flat_map}
 use Rattle.std.proofs.Math.Seq.{take-suc}
 use Rattle.std.proofs.lemmas.List.{append_assoc, drop_more}
@@ -57,6 +57,11 @@ said a b x = same-sym a b ∙ sym (any-if (same_attempt b a) x)
 pub on_ok : {X E : Type 0} {P Q : Type 0} (r : Result X E) → (P → Q) → OnOk r P → OnOk r Q
 on_ok (Ok x) f p = f p
 on_ok (Err e) f p = p
+
+-- and what follows of what holds after an error
+pub on_err : {X E : Type 0} {P Q : Type 0} (r : Result X E) → (P → Q) → OnErr r P → OnErr r Q
+on_err (Ok x) f p = p
+on_err (Err e) f p = f p
 
 -- what is noted of each entry adds up to what the log says
 pub states_more : (old new : AttemptStates) (log : List Entry) (k : ℕ) (x : Entry) → k < length log → get_or log k x ≡ x → AreStatesOf old (take k log) →

@@ -1,6 +1,6 @@
 // A set of attempts. Most are the first of an object that has a low serial of a low owner: a table tells of those.
 
-ghost use Rattle.std.specs.Prelude.{◌≡◌, ◌<◌, ◌==◌, ◌&&◌, ◌||◌, ℕ, OnOk, false, length, true};
+ghost use Rattle.std.specs.Prelude.{◌≡◌, ◌<◌, ◌==◌, ◌&&◌, ◌||◌, ℕ, OnErr, OnOk, false, length, true};
 ghost use Rattle.std.specs.List.{list_any};
 ghost use Rattle.ids.specs.Attempts.{Attempt, same_attempt};
 ghost use Rattle.meaning.specs.Births.{same_id};
@@ -73,7 +73,7 @@ fn is_near(rows: &Seq<Seq<bool>>, object: ObjectId) -> bool
     serial < len || serial - len < MOST_ADDED
 }
 
-/// The row goes up to that place.
+/// The row goes up to that place. On an error it may be longer than it was, and nothing more is set in it.
 fn lengthen_row(row: &mut Seq<bool>, place: usize) -> Result<(), AllocError>
     requires { place < 16777216 }
     ensures long { OnOk result (place < length row.new) }
@@ -104,7 +104,8 @@ fn lengthen(rows: &mut Seq<Seq<bool>>, owner: usize) -> Result<(), AllocError>
 
 fn set_in(row: &mut Seq<bool>, place: usize) -> Result<(), AllocError>
     requires { place < 16777216 }
-    ensures { OnOk result ((n : ℕ) → is_set row.new n ≡ (is_set row.old n || (n == place))) }
+    ensures done { OnOk result ((n : ℕ) → is_set row.new n ≡ (is_set row.old n || (n == place))) }
+    ensures err { OnErr result ((n : ℕ) → is_set row.new n ≡ is_set row.old n) }
 {
     lengthen_row(row, place)?;
     row.set(place, true);
@@ -114,7 +115,8 @@ fn set_in(row: &mut Seq<bool>, place: usize) -> Result<(), AllocError>
 fn mark_at(rows: &mut Seq<Seq<bool>>, owner: usize, serial: usize) -> Result<(), AllocError>
     requires owner { owner < length rows.old }
     requires serial { serial < 16777216 }
-    ensures { OnOk result ((i n : ℕ) → is_set (row_of rows.new i) n ≡ (is_set (row_of rows.old i) n || ((i == owner) && (n == serial)))) }
+    ensures done { OnOk result ((i n : ℕ) → is_set (row_of rows.new i) n ≡ (is_set (row_of rows.old i) n || ((i == owner) && (n == serial)))) }
+    ensures err { OnErr result ((i n : ℕ) → is_set (row_of rows.new i) n ≡ is_set (row_of rows.old i) n) }
 {
     let row = &mut rows.items[owner];
     set_in(row, serial)
@@ -123,7 +125,8 @@ fn mark_at(rows: &mut Seq<Seq<bool>>, owner: usize, serial: usize) -> Result<(),
 #[tactic(auto, unfolding(meaning::specs::Births::same_id))]
 fn mark(rows: &mut Seq<Seq<bool>>, object: ObjectId) -> Result<(), AllocError>
     requires { can_be_marked object ≡ true }
-    ensures { OnOk result ((o : Id) → is_marked rows.new o ≡ (is_marked rows.old o || same_id o object)) }
+    ensures done { OnOk result ((o : Id) → is_marked rows.new o ≡ (is_marked rows.old o || same_id o object)) }
+    ensures err { OnErr result ((o : Id) → is_marked rows.new o ≡ is_marked rows.old o) }
 {
     let owner = object.owner.0 as usize;
     lengthen(rows, owner)?;
@@ -155,10 +158,11 @@ impl AttemptSet {
         }
     }
 
-    /// Adds an attempt.
+    /// Adds an attempt. An error is want of memory, and then the set is what it was.
     #[tactic(auto, unfolding(ids::specs::Attempts::same_attempt, meaning::specs::Births::same_id))]
     pub fn add(&mut self, attempt: AttemptId) -> Result<(), AllocError>
-        ensures { OnOk result ((a : Attempt) → has self.new a ≡ (has self.old a || same_attempt a attempt)) }
+        ensures done { OnOk result ((a : Attempt) → has self.new a ≡ (has self.old a || same_attempt a attempt)) }
+        ensures err { OnErr result ((a : Attempt) → has self.new a ≡ has self.old a) }
     {
         if attempt.number == 0 && is_near(&self.firsts, attempt.object) {
             return mark(&mut self.firsts, attempt.object);

@@ -1,6 +1,6 @@
 // The values of a run, and the ids that stand in one.
 
-ghost use Rattle.std.specs.Prelude.{◌≡◌, IfOk, OnOk, ◌&&◌, ◌==◌, [], ◌∷◌};
+ghost use Rattle.std.specs.Prelude.{◌≡◌, IfOk, OnErr, OnOk, ◌&&◌, ◌==◌, [], ◌∷◌};
 ghost use Rattle.std.specs.List.{list_any};
 ghost use Rattle.values.specs.Values.{value_of};
 ghost use Rattle.values.specs.Listed.{ids_listed, adding};
@@ -45,20 +45,28 @@ fn is_among(objects: &[ObjectId], object: ObjectId) -> bool
     objects.iter().any(|o| o.owner.0 == object.owner.0 && o.serial == object.serial)
 }
 
-/// Adds the object at the end, unless it is there already.
+/// Adds the object at the end, unless it is there already. On an error none is left.
 fn add(found: &mut Vec<ObjectId>, object: ObjectId) -> Result<(), AllocError>
-    ensures { OnOk result (found.new.items ≡ adding found.old.items (object ∷ [])) }
+    ensures done { OnOk result (found.new.items ≡ adding found.old.items (object ∷ [])) }
+    ensures err { OnErr result (found.new.items ≡ []) }
 {
     if is_among(found.as_slice(), object) {
         return Ok(());
     }
-    found.push(object)?;
-    Ok(())
+    match found.push(object) {
+        Ok(()) => Ok(()),
+        Err(error) => {
+            found.clear();
+            Err(error.into())
+        }
+    }
 }
 
-/// Adds the ids that stand in a value, in order of first place, but for those that are there already.
+/// Adds the ids that stand in a value, in order of first place, but for those that are there already. An error is want of memory, and then
+/// none is left.
 pub fn add_ids(value: &RunValue, found: &mut Vec<ObjectId>) -> Result<(), AllocError>
-    ensures { OnOk result (found.new.items ≡ adding found.old.items (ids_listed (value_of value.now))) }
+    ensures done { OnOk result (found.new.items ≡ adding found.old.items (ids_listed (value_of value.now))) }
+    ensures err { OnErr result (found.new.items ≡ []) }
 {
     match value {
         RunValue::Int(_) => Ok(()),

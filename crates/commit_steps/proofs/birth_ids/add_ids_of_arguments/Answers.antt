@@ -13,7 +13,7 @@ loop-argument-preserved c =
     let a = c.argument-item.result in
     let seen = c.loop-argument.found.items in
     let rest = ids_of_arguments (map argument_of (drop (i + 1) args)) in
-    ap (λ s. adding s rest) c.in_ok-add_ids.ensures
+    ap (λ s. adding s rest) c.in_ok-add_ids.ensures.done
     ∙ sym (adding_append seen (ids_listed (value_of a.value)) rest)
     ∙ sym (ap (λ ys. adding seen (ids_of_arguments (map argument_of ys))) (drop_or args i a a c.loop-argument-test.true c.argument-item.is))
     ∙ c.loop-argument.invariant

@@ -1,9 +1,10 @@
 // What main printed, and how it ended.
 
-ghost use Rattle.std.specs.Prelude.{◌≡◌, ◌++◌, OnOk, map, codes, string_bytes};
+ghost use Rattle.std.specs.Prelude.{◌≡◌, ◌++◌, [], OnErr, OnOk, map, codes, string_bytes};
 ghost use Rattle.values.specs.Values.{value_of, content_of, trap_of};
 ghost use Rattle.report.specs.MainLines.{end_line, print_lines, trap_name};
 
+use crate::cleared::or_no_text;
 use crate::value::write_value;
 use std::alloc::AllocError;
 use values::{Content, RunValue, Trap};
@@ -52,17 +53,16 @@ fn write_end(text: &mut String, end: &Content) -> Result<(), AllocError>
 }
 
 /// Writes at the text's end the report's first two sections, of a main that ended: a line `print V` for each print, then
-/// `main value V` or `main trap T`.
-///
-/// Where memory runs out, the text may end in a beginning of them.
+/// `main value V` or `main trap T`. An error is want of memory, and then nothing is left of the text.
 pub fn write_main_lines(
     text: &mut String,
     prints: &[RunValue],
     end: &Content,
 ) -> Result<(), AllocError>
-    ensures { OnOk result
+    ensures done { OnOk result
         (string_bytes text.new ≡ string_bytes text.old ++ (print_lines (map value_of prints.now) ++ end_line (content_of end.now))) }
+    ensures err { OnErr result (string_bytes text.new ≡ []) }
 {
-    write_prints(text, prints)?;
-    write_end(text, end)
+    or_no_text(write_prints(text, prints), text)?;
+    or_no_text(write_end(text, end), text)
 }

@@ -1,9 +1,10 @@
 // How a report writes a value: numbers, lists and references.
 
-ghost use Rattle.std.specs.Prelude.{◌≡◌, ◌++◌, OnOk, string_bytes};
+ghost use Rattle.std.specs.Prelude.{◌≡◌, ◌++◌, [], OnErr, OnOk, string_bytes};
 ghost use Rattle.values.specs.Values.{value_of};
 ghost use Rattle.report.specs.ValueTexts.{id_text, separator, value_text};
 
+use crate::cleared::or_no_text;
 use itoa::Buffer;
 use std::alloc::AllocError;
 use values::RunValue;
@@ -28,10 +29,8 @@ fn separate(text: &mut String, place: usize) -> Result<(), AllocError>
     text.push_str(", ")
 }
 
-/// Writes a value at the text's end: a number in decimal, a list as `[1, 2]`, a reference as `o1.2`.
-///
-/// Where memory runs out, the text may end in a beginning of the value.
-pub fn write_value(text: &mut String, value: &RunValue) -> Result<(), AllocError>
+/// Writes a value at the text's end.
+fn add_value(text: &mut String, value: &RunValue) -> Result<(), AllocError>
     ensures { OnOk result (string_bytes text.new ≡ string_bytes text.old ++ value_text (value_of value.now)) }
 {
     match value {
@@ -41,10 +40,19 @@ pub fn write_value(text: &mut String, value: &RunValue) -> Result<(), AllocError
             text.push_str("[")?;
             for (place, item) in items.iter().enumerate() {
                 separate(text, place)?;
-                write_value(text, item)?;
+                add_value(text, item)?;
             }
             text.push_str("]")?;
             Ok(())
         }
     }
+}
+
+/// Writes a value at the text's end: a number in decimal, a list as `[1, 2]`, a reference as `o1.2`. An error is want of memory, and then
+/// nothing is left of the text.
+pub fn write_value(text: &mut String, value: &RunValue) -> Result<(), AllocError>
+    ensures done { OnOk result (string_bytes text.new ≡ string_bytes text.old ++ value_text (value_of value.now)) }
+    ensures err { OnErr result (string_bytes text.new ≡ []) }
+{
+    or_no_text(add_value(text, value), text)
 }

@@ -1,11 +1,11 @@
 // New own objects of a commit: puts with their contents, and tasks with an object for each result.
 
-ghost use Rattle.std.specs.Prelude.{◌≡◌, ◌+◌, ◌≤◌, ◌^◌, ◌++◌, ◌∷◌, [], IfOk, OnErr, OnOk, Some, None};
+ghost use Rattle.std.specs.Prelude.{◌≡◌, ◌+◌, ◌≤◌, ◌^◌, ◌++◌, ◌∷◌, [], IfOk, OnErr, OnOk, Some, None, false};
 ghost use Rattle.worker_steps.specs.of_contexts.Emptied.{nothing_here};
 ghost use Rattle.meaning.specs.Values.{Val, results_of};
 ghost use Rattle.values.specs.Values.{value_of};
 ghost use Rattle.protocol.specs.Numbered.{changed_at};
-ghost use Rattle.protocol.specs.Sets.{repeated};
+ghost use Rattle.protocol.specs.Sets.{is_empty, repeated};
 ghost use Rattle.protocol.specs.Tables.{Beside, ByTask, new_object, new_task, put_object, with_task};
 ghost use Rattle.protocol.specs.Asking.{requests};
 ghost use Rattle.protocol.specs.Commits.{bears, bears_all, bears_put, bears_task, next_id_here, with_objects};
@@ -256,6 +256,7 @@ pub fn bear_all(
 ) -> Result<(), AllocError>
     ensures done { OnOk result (here.new ≡ bears_all here.old bearer births.now) }
     ensures err { OnErr result (here.new ≡ nothing_here) }
+    ensures asked { OnErr result (is_empty births.now ≡ false) }
 {
     for birth in &births.items {
         bear(alloc, here, bearer, birth)?;

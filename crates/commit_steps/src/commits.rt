@@ -1,6 +1,6 @@
 // A commit: what a job came to.
 
-ghost use Rattle.std.specs.Prelude.{◌≡◌, ◌+◌, ◌++◌, IfOk, OnErr, OnOk, Some, None, true};
+ghost use Rattle.std.specs.Prelude.{◌≡◌, ◌+◌, ◌++◌, IfOk, OnErr, OnOk, Some, None, is_some, true};
 ghost use Rattle.worker_steps.specs.of_contexts.Emptied.{nothing_here};
 ghost use Rattle.protocol.specs.Steps.{with_phase, with_run};
 ghost use Rattle.protocol.specs.Tables.{HasEnded, Out};
@@ -272,6 +272,7 @@ pub fn commit_step(
 ) -> Result<(), AllocError>
     ensures done { OnOk result (here.new ≡ commit_step here.old outcomes.old) }
     ensures err { OnErr result (here.new ≡ nothing_here) }
+    ensures asked { OnErr result (is_some here.old.worker.run ≡ true) }
 {
     let Some(run) = &here.worker.run else {
         return Ok(());

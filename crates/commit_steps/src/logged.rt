@@ -87,8 +87,8 @@ pub fn log_outcomes(
     first: ObjectId,
     outcomes: &Outcomes,
 ) -> Result<(), AllocError>
-    ensures done {
-        OnOk result (here.new ≡ logs_all here.old (commit_entries attempt first outcomes.now.births outcomes.now.prints (stop_of outcomes.now.stop))) }
+    ensures done { OnOk result
+        (here.new ≡ logs_all here.old (commit_entries attempt first outcomes.now.births outcomes.now.prints (stop_of outcomes.now.stop))) }
     ensures err { OnErr result (here.new ≡ nothing_here) }
 {
     log_births(alloc, here, attempt, first, outcomes.births.as_slice())?;

@@ -1,7 +1,9 @@
 // What a worker does where it is told that another worker or a node is dead.
 
-ghost use Rattle.std.specs.Prelude.{◌≡◌, OnErr, OnOk, Some, None};
+ghost use Rattle.std.specs.Prelude.{◌≡◌, OnErr, OnOk, Some, None, false};
 ghost use Rattle.worker_steps.specs.of_contexts.Emptied.{nothing_here};
+ghost use Rattle.protocol.specs.Sets.{has};
+ghost use Rattle.protocol.specs.Tables.{knows_dead};
 ghost use Rattle.protocol.specs.Notices.{hears_of_node, hears_of_worker, notice_node_step, notice_step};
 
 use crate::node_deaths::{add_dead_node, lose_fetch, lose_locations, move_asks};
@@ -38,6 +40,7 @@ pub fn notice_step(
 ) -> Result<(), AllocError>
     ensures done { OnOk result (here.new ≡ notice_step here.old worker) }
     ensures err { OnErr result (here.new ≡ nothing_here) }
+    ensures asked { OnErr result (knows_dead here.old.worker worker ≡ false) }
 {
     if knows_dead(&here.worker, worker) {
         return Ok(());
@@ -65,6 +68,7 @@ pub fn notice_node_step(
 ) -> Result<(), AllocError>
     ensures done { OnOk result (here.new ≡ notice_node_step here.old node) }
     ensures err { OnErr result (here.new ≡ nothing_here) }
+    ensures asked { OnErr result (has here.old.worker.dead_nodes node ≡ false) }
 {
     if has_node(&here.worker.dead_nodes, node) {
         return Ok(());

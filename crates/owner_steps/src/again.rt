@@ -1,6 +1,6 @@
 // Attempts that begin, break, or are asked for elsewhere.
 
-ghost use Rattle.std.specs.Prelude.{◌≡◌, ◌+◌, ◌≤◌, ◌^◌, ◌++◌, ◌∷◌, [], OnErr, OnOk, IfOk, Some, None};
+ghost use Rattle.std.specs.Prelude.{◌≡◌, ◌+◌, ◌≤◌, ◌^◌, ◌++◌, ◌∷◌, [], OnErr, OnOk, IfOk, Some, None, true};
 ghost use Rattle.worker_steps.specs.of_contexts.Emptied.{nothing_here};
 ghost use Rattle.protocol.specs.Numbered.{changed_at, item_at};
 ghost use Rattle.protocol.specs.Tables.{task_of, with_task};
@@ -204,6 +204,7 @@ pub fn given_reached(
 ) -> Result<(), AllocError>
     ensures done { OnOk result (here.new ≡ given_reached here.old node attempt t worker) }
     ensures err { OnErr result (here.new ≡ nothing_here) }
+    ensures asked { OnErr result (has_ask t attempt (task_of (object_at here.old attempt.object)) ≡ true) }
 {
     if !has_ask(here, attempt, t) {
         return Ok(());
@@ -288,6 +289,7 @@ pub fn elsewhere_reached(
 ) -> Result<(), AllocError>
     ensures done { OnOk result (here.new ≡ elsewhere_reached here.old attempt t node) }
     ensures err { OnErr result (here.new ≡ nothing_here) }
+    ensures asked { OnErr result (has_ask t attempt (task_of (object_at here.old attempt.object)) ≡ true) }
 {
     if !has_ask(here, attempt, t) {
         return Ok(());

@@ -1,6 +1,7 @@
 // Workers that ask where an object is, or find no copy of it.
 
-ghost use Rattle.std.specs.Prelude.{◌≡◌, OnErr, OnOk, Some, None};
+ghost use Rattle.std.specs.Prelude.{◌≡◌, OnErr, OnOk, Some, None, true};
+ghost use Rattle.worker_steps.specs.Concerned.{is_asked_by, is_missed, is_missed_by};
 ghost use Rattle.worker_steps.specs.of_contexts.Emptied.{nothing_here};
 ghost use Rattle.protocol.specs.Numbered.{changed_at};
 ghost use Rattle.protocol.specs.Tables.{with_asker};
@@ -73,6 +74,7 @@ pub fn where_reached(
 ) -> Result<(), AllocError>
     ensures done { OnOk result (here.new ≡ where_reached here.old worker object) }
     ensures err { OnErr result (here.new ≡ nothing_here) }
+    ensures asked { OnErr result (is_asked_by here.old worker object ≡ true) }
 {
     let Some(found) = object_at(here, object) else {
         return Ok(());
@@ -140,6 +142,7 @@ fn missing_from(
 ) -> Result<(), AllocError>
     ensures done { OnOk result (here.new ≡ missing_from here.old sender.now object) }
     ensures err { OnErr result (here.new ≡ nothing_here) }
+    ensures asked { OnErr result (is_missed_by here.old sender.now object ≡ true) }
 {
     match sender {
         Endpoint::TheWorker(worker) => where_reached(alloc, here, *worker, object),
@@ -159,6 +162,7 @@ pub fn missing_reached(
 ) -> Result<(), AllocError>
     ensures done { OnOk result (here.new ≡ missing_reached here.old sender.now object number node) }
     ensures err { OnErr result (here.new ≡ nothing_here) }
+    ensures asked { OnErr result (is_missed here.old sender.now object ≡ true) }
 {
     if !is_own(here, object) {
         return hand_missing_on(here, object, number, node);

@@ -1,11 +1,11 @@
 // The worker's own attempt needs an own object.
 
-ghost use Rattle.std.specs.Prelude.{◌≡◌, OnErr, OnOk, [], Some, None};
+ghost use Rattle.std.specs.Prelude.{◌≡◌, OnErr, OnOk, [], Some, None, true};
 ghost use Rattle.worker_steps.specs.of_contexts.Emptied.{nothing_here};
 ghost use Rattle.std.specs.Option.{unwrap_or};
 ghost use Rattle.protocol.specs.Numbered.{changed_at};
 ghost use Rattle.protocol.specs.Stores.{copy_in};
-ghost use Rattle.protocol.specs.Tables.{settled_number, without_location, without_locations};
+ghost use Rattle.protocol.specs.Tables.{is_waiting_for, settled_number, without_location, without_locations};
 ghost use Rattle.protocol.specs.Steps.{changes, object_at};
 ghost use Rattle.protocol.specs.Locations.{looks_at_locations, looks_elsewhere, looks_for_by, looks_here_by};
 ghost use Rattle.protocol.specs.Locations.{needs_own, needs_own_if_waiting, needs_released, needs_unresolved};
@@ -214,6 +214,7 @@ pub fn need_own_if_waiting(
 ) -> Result<(), AllocError>
     ensures done { OnOk result (here.new ≡ needs_own_if_waiting here.old object) }
     ensures err { OnErr result (here.new ≡ nothing_here) }
+    ensures asked { OnErr result (is_waiting_for here.old.worker object ≡ true) }
 {
     if is_waiting_for(&here.worker, object) {
         return need_own(alloc, here, object);

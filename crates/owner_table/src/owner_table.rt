@@ -1,6 +1,6 @@
 // What may happen to a worker's own objects.
 
-ghost use Rattle.std.specs.Prelude.{◌≡◌, OnErr, OnOk};
+ghost use Rattle.std.specs.Prelude.{◌≡◌, OnErr, OnOk, false, true};
 ghost use Rattle.worker_steps.specs.of_contexts.Emptied.{nothing_here};
 ghost use Rattle.protocol.specs.Asking.{given_reached};
 ghost use Rattle.protocol.specs.Commits.{bears_all};
@@ -8,6 +8,12 @@ ghost use Rattle.protocol.specs.Ends.{failed_reached, finished_reached};
 ghost use Rattle.protocol.specs.Notices.{notice_node_step, notice_step};
 ghost use Rattle.protocol.specs.Locations.{adds_locations, missing_reached, where_reached};
 ghost use Rattle.protocol.specs.Releases.{release_step};
+ghost use Rattle.protocol.specs.Sets.{has, is_empty};
+ghost use Rattle.protocol.specs.Steps.{object_at};
+ghost use Rattle.protocol.specs.Tables.{knows_dead, task_of};
+ghost use Rattle.worker_steps.specs.Concerned.{is_asked_by, is_missed, may_locate};
+ghost use Rattle.worker_steps.specs.Looking.{SomeGoes};
+ghost use Rattle.commit_steps.specs.of_owner_steps.Asked.{has_ask};
 
 use commit_steps::bear_all;
 use commit_steps::owner_steps::{
@@ -23,7 +29,8 @@ use worker_acts::{notice_node_step, notice_step};
 use worker_steps::{add_locations_of, release_all};
 
 /// A worker's own objects in an event: what is told of them, and what is done then. An error is want of memory; then nothing is left of
-/// the worker and its node, since the step may have been half done.
+/// the worker and its node, since the step may have been half done. Where what is told is about nothing in the table, the step does nothing, asks
+/// for no memory, and answers no error; that an attempt has ended is answered in any case.
 pub trait OwnerTable {
     /// The attempt bears what these births make: each object enters the table and holds the ids in its birth; a put value is stored, and of
     /// a task, which may make several objects, the first attempt is asked for.
@@ -109,6 +116,7 @@ impl OwnerTable for WorkerContext {
     ) -> Result<(), AllocError>
         ensures done { OnOk result (self.new ≡ bears_all self.old bearer births.now) }
         ensures err { OnErr result (self.new ≡ nothing_here) }
+        ensures asked { OnErr result (is_empty births.now ≡ false) }
     {
         bear_all(alloc, self, bearer, births)
     }
@@ -123,6 +131,7 @@ impl OwnerTable for WorkerContext {
     ) -> Result<(), AllocError>
         ensures done { OnOk result (self.new ≡ given_reached self.old node attempt t worker) }
         ensures err { OnErr result (self.new ≡ nothing_here) }
+        ensures asked { OnErr result (has_ask t attempt (task_of (object_at self.old attempt.object)) ≡ true) }
     {
         given_reached(alloc, self, node, attempt, t, worker)
     }
@@ -163,6 +172,7 @@ impl OwnerTable for WorkerContext {
     ) -> Result<(), AllocError>
         ensures done { OnOk result (self.new ≡ adds_locations self.old object number nodes.now) }
         ensures err { OnErr result (self.new ≡ nothing_here) }
+        ensures asked { OnErr result (may_locate self.old object number ≡ true) }
     {
         add_locations_of(self, object, number, nodes)
     }
@@ -177,6 +187,7 @@ impl OwnerTable for WorkerContext {
     ) -> Result<(), AllocError>
         ensures done { OnOk result (self.new ≡ missing_reached self.old sender.now object number node) }
         ensures err { OnErr result (self.new ≡ nothing_here) }
+        ensures asked { OnErr result (is_missed self.old sender.now object ≡ true) }
     {
         missing_reached(alloc, self, sender, object, number, node)
     }
@@ -184,6 +195,7 @@ impl OwnerTable for WorkerContext {
     fn node_dead(&mut self, alloc: Global, node: NodeId) -> Result<(), AllocError>
         ensures done { OnOk result (self.new ≡ notice_node_step self.old node) }
         ensures err { OnErr result (self.new ≡ nothing_here) }
+        ensures asked { OnErr result (has self.old.worker.dead_nodes node ≡ false) }
     {
         notice_node_step(alloc, self, node)
     }
@@ -191,6 +203,7 @@ impl OwnerTable for WorkerContext {
     fn worker_dead(&mut self, alloc: Global, worker: WorkerId) -> Result<(), AllocError>
         ensures done { OnOk result (self.new ≡ notice_step self.old worker) }
         ensures err { OnErr result (self.new ≡ nothing_here) }
+        ensures asked { OnErr result (knows_dead self.old.worker worker ≡ false) }
     {
         notice_step(alloc, self, worker)
     }
@@ -203,6 +216,7 @@ impl OwnerTable for WorkerContext {
     ) -> Result<(), AllocError>
         ensures done { OnOk result (self.new ≡ where_reached self.old worker object) }
         ensures err { OnErr result (self.new ≡ nothing_here) }
+        ensures asked { OnErr result (is_asked_by self.old worker object ≡ true) }
     {
         where_reached(alloc, self, worker, object)
     }
@@ -210,6 +224,7 @@ impl OwnerTable for WorkerContext {
     fn release(&mut self, alloc: Global) -> Result<(), AllocError>
         ensures done { OnOk result (self.new ≡ release_step self.old) }
         ensures err { OnErr result (self.new ≡ nothing_here) }
+        ensures asked { OnErr result (SomeGoes self.old.worker) }
     {
         release_all(alloc, self)
     }

@@ -1,9 +1,8 @@
 -- What only sends messages leaves the worker as it was.
-use Rattle.std.proofs.Common.{◌≡◌, ℕ, zero, suc, ◌+◌, Bool, true, false, if◌then◌else◌, List, [], ◌∷◌, length, Option, Some, None, refl, ap, sym, ◌∙◌}
+use Rattle.std.proofs.Common.{◌≡◌, ℕ, zero, suc, ◌+◌, Bool, true, false, if◌then◌else◌, List, [], ◌∷◌, length, Option, Some, None, refl, ◌∙◌}
 use Rattle.meaning.specs.Values.{Id}
-use Rattle.event_log.specs.Words.{attempt}
-use Rattle.protocol.specs.Messages.{Ask, Hold, Push, Where}
-use Rattle.protocol.specs.Tables.{AskedAt, AtRest, Fetching, HasEnded, HasFaulted, Holding, Object, Out, OwnTask, Phase, Progress, Ready, RunsOn, Waits, task_of}
+use Rattle.protocol.specs.Messages.{Hold, Where}
+use Rattle.protocol.specs.Tables.{AskedAt, AtRest, Fetching, HasEnded, HasFaulted, Holding, Out, OwnTask, Phase, Progress, Ready, RunsOn, Waits, task_of}
 use Rattle.protocol.specs.Steps.{WorkerContext, each_from, is_own, own_id, own_object, says}
 use Rattle.protocol.specs.Ticks.{asks_again, asks_location_again, sends_holds, sends_task, sends_task_at, sends_tasks}
 

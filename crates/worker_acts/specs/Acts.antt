@@ -1,5 +1,5 @@
 -- What a worker does in an event.
-use Rattle.std.specs.Prelude.{List, Option, Some, None, ℕ}
+use Rattle.std.specs.Prelude.{List, Option, Some, None}
 use Rattle.protocol.specs.Messages.{Envelope}
 use Rattle.protocol.specs.Numbered.{item_at}
 use Rattle.protocol.specs.Steps.{WorkerContext}

@@ -1,8 +1,9 @@
 // What a worker does with each message that reaches it.
 
-ghost use Rattle.std.specs.Prelude.{◌≡◌, OnErr, OnOk, Some, None};
+ghost use Rattle.std.specs.Prelude.{◌≡◌, OnErr, OnOk, Some, None, true};
 ghost use Rattle.worker_steps.specs.of_contexts.Emptied.{nothing_here};
 ghost use Rattle.protocol.specs.Deliveries.{reached, reached_from_node, reached_from_worker};
+ghost use Rattle.worker_acts.specs.Concerned.{concerns, concerns_by_node, concerns_by_worker};
 
 use commit_steps::owner_steps::{
     elsewhere_reached, failed_reached, finished_reached, given_reached, missing_reached,
@@ -25,6 +26,7 @@ fn reached_from_worker(
 ) -> Result<(), AllocError>
     ensures done { OnOk result (here.new ≡ reached_from_worker here.old worker message.now) }
     ensures err { OnErr result (here.new ≡ nothing_here) }
+    ensures asked { OnErr result (concerns_by_worker here.old worker message.now ≡ true) }
 {
     match message {
         Message::Push(attempt, spec) => push_reached(alloc, here, *attempt, spec),
@@ -64,6 +66,7 @@ fn reached_from_node(
 ) -> Result<(), AllocError>
     ensures done { OnOk result (here.new ≡ reached_from_node here.old node message.now) }
     ensures err { OnErr result (here.new ≡ nothing_here) }
+    ensures asked { OnErr result (concerns_by_node here.old node message.now ≡ true) }
 {
     match message {
         Message::Give(attempt, t, worker) => {
@@ -96,6 +99,7 @@ pub fn reached(
 ) -> Result<(), AllocError>
     ensures done { OnOk result (here.new ≡ reached here.old sender.now message.now) }
     ensures err { OnErr result (here.new ≡ nothing_here) }
+    ensures asked { OnErr result (concerns here.old sender.now message.now ≡ true) }
 {
     match sender {
         Endpoint::TheWorker(worker) => reached_from_worker(alloc, here, *worker, message),

@@ -1,10 +1,11 @@
 // What a worker does in an event.
 
-ghost use Rattle.std.specs.Prelude.{◌≡◌, OnErr, OnOk};
+ghost use Rattle.std.specs.Prelude.{◌≡◌, OnErr, OnOk, true};
 ghost use Rattle.worker_steps.specs.of_contexts.Emptied.{nothing_here};
 ghost use Rattle.protocol.specs.Releases.{release_step};
 ghost use Rattle.protocol.specs.Numbered.{item_at};
 ghost use Rattle.worker_acts.specs.Acts.{act_step, received};
+ghost use Rattle.worker_acts.specs.Concerned.{AsksFor, concerns_act, concerns_envelope};
 
 use crate::messages::reached;
 use crate::ticks::tick_step;
@@ -44,6 +45,7 @@ fn receive(
 ) -> Result<(), AllocError>
     ensures done { OnOk result (here.new ≡ received here.old (item_at sent.now number)) }
     ensures err { OnErr result (here.new ≡ nothing_here) }
+    ensures asked { OnErr result (concerns_envelope here.old (item_at sent.now number) ≡ true) }
 {
     let Some(envelope) = item_at_number(sent, number) else {
         return Ok(());
@@ -61,6 +63,7 @@ fn step(
 ) -> Result<(), AllocError>
     ensures done { OnOk result (here.new ≡ act_step sent.now act.old here.old) }
     ensures err { OnErr result (here.new ≡ nothing_here) }
+    ensures asked { OnErr result (concerns_act sent.now act.old here.old ≡ true) }
 {
     match act {
         Act::Claim(job) => {
@@ -86,6 +89,7 @@ pub fn take_part(
 ) -> Result<(), AllocError>
     ensures done { OnOk result (here.new ≡ release_step (act_step sent.now act.old here.old)) }
     ensures err { OnErr result (here.new ≡ nothing_here) }
+    ensures asked { OnErr result (AsksFor sent.now act.old here.old) }
 {
     step(alloc, here, sent, act)?;
     release_all(alloc, here)

@@ -1,6 +1,8 @@
 // A tick: the worker sends again what it waits for.
 
-ghost use Rattle.std.specs.Prelude.{◌≡◌, ◌+◌, ◌-◌, OnErr, OnOk, Some, None};
+ghost use Rattle.std.specs.Prelude.{◌≡◌, ◌+◌, ◌-◌, OnErr, OnOk, Some, None, false, is_some, true};
+ghost use Rattle.protocol.specs.Sets.{is_empty};
+ghost use Rattle.worker_acts.specs.Concerned.{has_to_send};
 ghost use Rattle.worker_steps.specs.of_contexts.Emptied.{nothing_here};
 ghost use Rattle.protocol.specs.Tables.{task_of};
 ghost use Rattle.protocol.specs.Steps.{own_object};
@@ -49,6 +51,7 @@ fn send_task(alloc: Global, here: &mut WorkerContext, serial: u64) -> Result<(),
 fn send_tasks(alloc: Global, here: &mut WorkerContext) -> Result<(), AllocError>
     ensures done { OnOk result (here.new ≡ sends_tasks here.old) }
     ensures err { OnErr result (here.new ≡ nothing_here) }
+    ensures asked { OnErr result (is_empty here.old.worker.objects ≡ false) }
 {
     let count = here.worker.objects.len() as u64;
     for place in 0..count {
@@ -133,6 +136,7 @@ fn send_own(alloc: Global, here: &mut WorkerContext) -> Result<(), AllocError>
 fn send_run(alloc: Global, here: &mut WorkerContext) -> Result<(), AllocError>
     ensures done { OnOk result (here.new ≡ sends_run here.old here.old.worker.run) }
     ensures err { OnErr result (here.new ≡ nothing_here) }
+    ensures asked { OnErr result (is_some here.old.worker.run ≡ true) }
 {
     match &here.worker.run {
         None => Ok(()),
@@ -145,6 +149,7 @@ fn send_run(alloc: Global, here: &mut WorkerContext) -> Result<(), AllocError>
 pub fn tick_step(alloc: Global, here: &mut WorkerContext) -> Result<(), AllocError>
     ensures done { OnOk result (here.new ≡ tick_step here.old) }
     ensures err { OnErr result (here.new ≡ nothing_here) }
+    ensures asked { OnErr result (has_to_send here.old ≡ true) }
 {
     send_tasks(alloc, here)?;
     send_run(alloc, here)

@@ -1,6 +1,8 @@
 -- What goes with an object that is released.
 use Rattle.std.proofs.Common.{◌≡◌, ℕ, zero, suc, ◌+◌, ◌-◌, ◌<◌, ◌≤◌, List, [], ◌∷◌, Bool, true, false, Some, refl, sym, ap, ◌∙◌, append-nil, append_assoc, arith}
-use Rattle.std.specs.Prelude.{if◌then◌else◌, ◌&&◌, map, not}
+use Rattle.std.specs.Prelude.{Err, Ok, OnErr, Result, if◌then◌else◌, ◌&&◌, ◌==◌, map, nat_lt, not}
+use Rattle.worker_steps.specs.Looking.{goes_at}
+use Rattle.std.proofs.lemmas.Bool.Decides.{nat_tests}
 use Rattle.meaning.specs.Runs.{ids_from}
 use Rattle.event_log.specs.Entries.{Entry, Released}
 use Rattle.protocol.specs.Numbered.{item_at}
@@ -88,3 +90,28 @@ none_released h k x there none = ap (releases_by h k) there ∙ either (may_rele
 
 pub stays_held : (h : WorkerContext) (k : ℕ) (x : Object) → own_object h k ≡ Some x → may_release h.worker k x ≡ false → releases_by h k (own_object h k) ≡ h
 stays_held h k x there stays = ap (releases_by h k) there ∙ ap (λ b. if b then releases_all h k (going_with x.source) else h) stays
+
+-- numbers that aren't equal
+pub differ : (m n : ℕ) → (m ≡ n → ⊥) → (m == n) ≡ false
+differ m n h = grind (arith, nat_tests, h)
+
+-- what holds anyway holds after an error
+pub any_err : {X E : Type 0} {P : Type 0} (r : Result X E) → P → OnErr r P
+any_err (Ok x) p = record {}
+any_err (Err e) p = p
+
+-- what follows of what holds after an error
+pub on_err : {X E : Type 0} {P Q : Type 0} (r : Result X E) → (P → Q) → OnErr r P → OnErr r Q
+on_err (Ok x) f p = p
+on_err (Err e) f p = f p
+
+more : (k n : ℕ) → k < k + n → nat_lt 0 n ≡ true
+more k n less = let some : 0 < n = omega (arith, less) in grind (arith, nat_tests, some)
+
+-- where it may be released, and something goes with it, it goes
+pub going_there : (h : WorkerContext) (k end : ℕ) (x : Object) → own_object h k ≡ Some x → end ≡ k + going_with x.source → may_release h.worker k x ≡ true → k < end →
+    goes_at h.worker k (own_object h k) ≡ true
+going_there h k end x there e goes less =
+    ap (goes_at h.worker k) there
+    ∙ ap (λ b. b && nat_lt 0 (going_with x.source)) goes
+    ∙ more k (going_with x.source) (omega (arith, e, less))

@@ -1,6 +1,6 @@
 -- A search for what can be released may pass over what the index says.
-use Rattle.std.proofs.Common.{◌≡◌, ℕ, ◌+◌, ◌-◌, ◌<◌, ◌≤◌, ◌⊎◌, inl, inr, Bool, true, false, Option, Some, None, zero, suc, length, refl, sym, ap, ◌∙◌, arith}
-use Rattle.std.specs.Prelude.{not, ◌==◌, ◌&&◌, ◌||◌, if◌then◌else◌, slice_get, is_some}
+use Rattle.std.proofs.Common.{◌≡◌, ℕ, ◌+◌, ◌-◌, ◌<◌, ◌≤◌, ◌⊎◌, inl, inr, Bool, true, false, subst, Option, Some, None, zero, suc, length, refl, sym, ap, ◌∙◌, arith}
+use Rattle.std.specs.Prelude.{not, ◌==◌, ◌&&◌, ◌||◌, if◌then◌else◌, slice_get, is_some, nat_lt}
 use Rattle.std.proofs.lemmas.Bool.Decides.{nat_tests}
 use Rattle.event_log.specs.Words.{same_attempt}
 use Rattle.protocol_data.specs.Unneeded.{AllStay, is_awaited, is_borne_by, stays}
@@ -12,7 +12,7 @@ use Rattle.meaning.specs.Values.{others_of}
 use Rattle.protocol_data.specs.Unneeded.{is_under_way as is_on_its_way}
 use Rattle.worker_steps.proofs.EachLaws.{each_step, pass_last}
 use Rattle.worker_steps.proofs.Goings.{none_released, stays_held}
-use Rattle.worker_steps.specs.Looking.{NoneGoes, attempt_going_on}
+use Rattle.worker_steps.specs.Looking.{NoneGoes, SomeGoes, attempt_going_on, goes_at}
 
 on_its_way : (p : Progress) → is_on_its_way p ≡ is_under_way p
 on_its_way AtRest = refl
@@ -133,11 +133,70 @@ one_released h g n p q last le quiet less new so_far =
     ∙ so_far
 
 -- where nothing at all may be released
+still_pass : (h : WorkerContext) (q : ℕ) → length h.worker.objects ≤ q → NoneGoes h.worker 0 q → release_pass h ≡ h
+still_pass h q past quiet =
+    let n = length h.worker.objects in
+    let all : n ≡ n - 0 = omega arith in
+    ap (each_from (λ g k. releases_by g k (own_object g k)) h 1) all ∙ passed_all h n 0 q (omega arith) past quiet
+
 pub nothing_released : (h : WorkerContext) (q : ℕ) → length h.worker.objects ≤ q → NoneGoes h.worker 0 q → release_step h ≡ h
 nothing_released h q past quiet =
     let n = length h.worker.objects in
-    let all : n ≡ n - 0 = omega arith in
-    let still : release_pass h ≡ h = ap (each_from (λ g k. releases_by g k (own_object g k)) h 1) all ∙ passed_all h n 0 q (omega arith) past quiet in
+    let still : release_pass h ≡ h = still_pass h q past quiet in
     let same : (entries_made h == entries_made h) ≡ true = grind (arith, nat_tests) in
     let turns : n + 1 ≡ n + 1 - 0 = omega arith in
     ap (λ m. release_passes false m h) turns ∙ pass_last h n 0 (omega arith) (ap (λ g. entries_made g == entries_made h) still ∙ same) ∙ still
+
+-- ---- where an object is released, one may be
+
+-- nothing may be released of what the worker has
+abbrev pub IsQuiet : WorkerContext → Type 0
+IsQuiet h = NoneGoes h.worker 0 (length h.worker.objects)
+
+true_or : (a b : Bool) → a ≡ false → (a && b) ≡ true → ⊥
+true_or a b h e = differ (sym (ap (λ c. c && b) h) ∙ e)
+  where
+    differ : false ≡ true → ⊥
+    differ e = absurd cc
+
+or_true : (a : Bool) (k : ℕ) → k ≡ 0 → (a && nat_lt 0 k) ≡ true → ⊥
+or_true true k h e = differ (sym (ap (λ m. nat_lt 0 m) h) ∙ e)
+  where
+    differ : false ≡ true → ⊥
+    differ e = absurd cc
+or_true false k h e = absurd cc
+
+stays_there : (h : WorkerContext) (p : ℕ) → ((x : Object) → slice_get h.worker.objects p ≡ Some x → (may_release h.worker (suc p) x ≡ false) ⊎ (going_with x.source ≡ 0)) →
+    goes_at h.worker (p + 1) (own_object h (p + 1)) ≡ true → ⊥
+stays_there h p g e =
+    let s : p + 1 ≡ suc p = omega arith in
+    by_row (slice_get h.worker.objects p) refl (sym (ap (λ n. goes_at h.worker n (own_object h n)) s) ∙ e)
+  where
+    by_row : (o : Option Object) → slice_get h.worker.objects p ≡ o → goes_at h.worker (suc p) (own_object h (suc p)) ≡ true → ⊥
+    by_row None there goes = differ (sym (ap (goes_at h.worker (suc p)) there) ∙ goes)
+      where
+        differ : false ≡ true → ⊥
+        differ e = absurd cc
+    by_row (Some x) there goes =
+        let it : (may_release h.worker (suc p) x && nat_lt 0 (going_with x.source)) ≡ true = sym (ap (goes_at h.worker (suc p)) there) ∙ goes in
+        elim (g x there) [ inl stays ↦ true_or (may_release h.worker (suc p) x) (nat_lt 0 (going_with x.source)) stays it | inr none ↦ or_true (may_release h.worker (suc p) x) (going_with x.source) none it ]
+
+-- where an object goes on the way, one may be released at first: until then nothing changed
+pub one_goes : (h g : WorkerContext) (n q : ℕ) → n ≡ length h.worker.objects → q < n → (IsQuiet h → g ≡ h) → goes_at g.worker (q + 1) (own_object g (q + 1)) ≡ true →
+    SomeGoes h.worker
+one_goes h g n q e less same goes quiet =
+    stays_there h q (λ x there. quiet q x (omega arith) (omega (arith, e, less)) there)
+    (subst (λ a. goes_at a.worker (q + 1) (own_object a (q + 1)) ≡ true) (same quiet) goes)
+
+-- one turn changes nothing where nothing may be released
+pub none_gone : (h g next : WorkerContext) (n q : ℕ) → n ≡ length h.worker.objects → q < n → (IsQuiet h → g ≡ h) → next ≡ releases_by g (q + 1) (own_object g (q + 1)) →
+    IsQuiet h → next ≡ h
+none_gone h g next n q e less same made quiet =
+    made ∙ ap (λ a. release_at a (q + 1)) (same quiet) ∙ none_here h q (λ x there. quiet q x (omega arith) (omega (arith, e, less)) there)
+
+-- so of passes
+pub pass_goes : (h g : WorkerContext) → (IsQuiet h → g ≡ h) → SomeGoes g.worker → SomeGoes h.worker
+pass_goes h g same some quiet = some (subst (λ a. NoneGoes a.worker 0 (length a.worker.objects)) (sym (same quiet)) quiet)
+
+pub none_passed : (h g next : WorkerContext) → (IsQuiet h → g ≡ h) → next ≡ release_pass g → IsQuiet h → next ≡ h
+none_passed h g next same made quiet = made ∙ ap release_pass (same quiet) ∙ still_pass h (length h.worker.objects) (omega arith) quiet

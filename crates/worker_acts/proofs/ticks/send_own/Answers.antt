@@ -1,5 +1,5 @@
-use Rattle.std.proofs.Common.{◌≡◌, OnOk, Some, ap, subst, ◌∙◌}
-use Rattle.protocol.specs.Ticks.{asks_again, sends_holds, sends_stop}
+use Rattle.std.proofs.Common.{◌≡◌, OnOk, ap, subst, ◌∙◌}
+use Rattle.protocol.specs.Ticks.{sends_holds, sends_stop}
 use Rattle.worker_acts.proofs.Sendings.{again_keeps, holds_keep}
 use Rattle.worker_acts.proofs.ticks.send_own.Goals as goal
 

@@ -1,4 +1,4 @@
-use Rattle.std.proofs.Common.{◌≡◌, OnOk, Some, ap, if◌then◌else◌, subst, sym, true, ◌∙◌}
+use Rattle.std.proofs.Common.{◌≡◌, OnOk, ap, if◌then◌else◌, subst, sym, true, ◌∙◌}
 use Rattle.protocol.specs.Notices.{is_unheard}
 use Rattle.protocol.specs.Runs.{tells_stop}
 use Rattle.worker_acts.proofs.ticks.send_stop.Goals as goal

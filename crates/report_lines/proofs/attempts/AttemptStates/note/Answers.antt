@@ -9,16 +9,16 @@ pub returns-in-Accepted-clause-accepted : goal.returns-in-Accepted-clause-accept
 returns-in-Accepted-clause-accepted c =
     on_ok c.add.result
     (λ h a. h a ∙ ap (λ t. has c.args.self.now.accepted a || t) (said a c.in-Accepted.attempt _ ∙ ap (λ e. any (accepted_in a e)) (sym c.in-Accepted.is)))
-    c.add.ensures
+    c.add.ensures.done
 
 pub returns-in-Ended-clause-ended : goal.returns-in-Ended-clause-ended
 returns-in-Ended-clause-ended c =
     on_ok c.add-in-Ended.result
     (λ h a. h a ∙ ap (λ t. has c.args.self.now.ended a || t) (said a c.in-Ended.attempt _ ∙ ap (λ e. any (ended_in a e)) (sym c.in-Ended.is)))
-    c.add-in-Ended.ensures
+    c.add-in-Ended.ensures.done
 
 pub returns-in-Faulted-clause-faulted : goal.returns-in-Faulted-clause-faulted
 returns-in-Faulted-clause-faulted c =
     on_ok c.add-in-Faulted.result
     (λ h a. h a ∙ ap (λ t. has c.args.self.now.faulted a || t) (said a c.in-Faulted.attempt _ ∙ ap (λ e. any (faulted_in a e)) (sym c.in-Faulted.is)))
-    c.add-in-Faulted.ensures
+    c.add-in-Faulted.ensures.done

@@ -21,7 +21,7 @@ pub struct Told {
 fn note_job(jobs: &mut Vec<WorkerId>, event: &Event, is_refused: bool) -> Result<(), AllocError>
     ensures done { OnOk result (jobs.new.items
         ≡ jobs.old.items ++ (if is_refused then [] else claim_in event.now)) }
-    ensures err { OnErr result (jobs.new ≡ jobs.old) }
+    ensures err { OnErr result (jobs.new.items ≡ jobs.old.items) }
 {
     if is_refused {
         return Ok(());

@@ -1,6 +1,6 @@
 // Attempts, with the functions that they run.
 
-ghost use Rattle.std.specs.Prelude.{◌≡◌, ◌++◌, OnOk, option_copied, string_bytes};
+ghost use Rattle.std.specs.Prelude.{◌≡◌, ◌++◌, [], OnErr, OnOk, option_copied, string_bytes};
 ghost use Rattle.std.specs.Option.{option_map};
 ghost use Rattle.task_spec.specs.Births.{birth_of};
 ghost use Rattle.log_words.specs.of_event_log.Words.{births};
@@ -10,6 +10,7 @@ ghost use Rattle.log_text.specs.Attempts.{again_note, begun_text, call_note, nam
 use ids::{AttemptId, WorkerId};
 use log_entries::Entry;
 use log_words::{BirthIndex, Contents, write_call};
+use report::or_no_text;
 use std::alloc::AllocError;
 use task_spec::Birth;
 
@@ -56,18 +57,19 @@ fn write_again(text: &mut String, number: u32) -> Result<(), AllocError>
     text.push_str(" again")
 }
 
-/// Writes an attempt with the function that it runs, such as `a1.1#0 (sq)`.
+/// Writes an attempt with the function that it runs, such as `a1.1#0 (sq)`. An error is want of memory, and then nothing is left of the text.
 pub fn write_named(
     text: &mut String,
     index: &BirthIndex,
     log: &[Entry],
     attempt: AttemptId,
 ) -> Result<(), AllocError>
-    ensures { IsIndexOf index.now log.now → OnOk result
+    ensures done { IsIndexOf index.now log.now → OnOk result
         (string_bytes text.new ≡ string_bytes text.old ++ named_text (births log.now) attempt) }
+    ensures err { OnErr result (string_bytes text.new ≡ []) }
 {
-    write!(text, "{attempt}")?;
-    write_name(text, index.birth(log, attempt.object))
+    or_no_text(write!(text, "{attempt}"), text)?;
+    or_no_text(write_name(text, index.birth(log, attempt.object)), text)
 }
 
 /// Writes where an attempt begins and what it runs, such as `w2 begins a1.1#0: sq(7)`.

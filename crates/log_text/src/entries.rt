@@ -1,6 +1,6 @@
 // What an entry says in words: of an attempt, of an object, or of what came of an event.
 
-ghost use Rattle.std.specs.Prelude.{◌≡◌, ◌+◌, ◌++◌, ◌<◌, ◌^◌, OnOk, string_bytes};
+ghost use Rattle.std.specs.Prelude.{◌≡◌, ◌+◌, ◌++◌, ◌<◌, ◌^◌, [], OnErr, OnOk, string_bytes};
 ghost use Rattle.log_words.specs.of_event_log.Words.{births};
 ghost use Rattle.values.specs.Values.{value_of};
 ghost use Rattle.log_words.specs.Index.{IsIndexOf};
@@ -17,6 +17,7 @@ use log_words::{
     BirthIndex, Contents, Told, write_birth, write_content, write_contents, write_fault,
     write_objects, write_value,
 };
+use report::or_no_text;
 use std::alloc::AllocError;
 use values::{Fault, RunValue};
 
@@ -150,8 +151,7 @@ fn write_indent(text: &mut String, events: usize) -> Result<(), AllocError>
     text.push_str("    ")
 }
 
-/// Writes the line of an entry, behind what was told before; `is_refused` says of an event that it is refused.
-pub fn write_line(
+fn add_line(
     text: &mut String,
     contents: Contents,
     index: &BirthIndex,
@@ -170,4 +170,26 @@ pub fn write_line(
     write_indent(text, told.events)?;
     write_entry(text, contents, index, log, entry)?;
     text.push_str("\n")
+}
+
+/// Writes the line of an entry, behind what was told before; `is_refused` says of an event that it is refused. An error is want of memory, and
+/// then nothing is left of the text.
+pub fn write_line(
+    text: &mut String,
+    contents: Contents,
+    index: &BirthIndex,
+    log: &[Entry],
+    told: &Told,
+    entry: &Entry,
+    is_refused: bool,
+) -> Result<(), AllocError>
+    requires { told.now.events + 1 < 2 ^ 64 }
+    ensures done { IsIndexOf index.now log.now → OnOk result (string_bytes text.new
+        ≡ string_bytes text.old ++ line contents (births log.now) (told_of told.now) entry.now is_refused) }
+    ensures err { OnErr result (string_bytes text.new ≡ []) }
+{
+    or_no_text(
+        add_line(text, contents, index, log, told, entry, is_refused),
+        text,
+    )
 }

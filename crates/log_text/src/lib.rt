@@ -14,6 +14,7 @@ mod text;
 pub use attempts::write_named;
 pub use entries::write_line;
 pub use mentions::{is_among, is_in_birth, is_in_content};
+pub use report::or_no_text;
 pub use runners::{node_of, opened};
 pub use story::story_text;
 pub use text::log_text;

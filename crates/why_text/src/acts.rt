@@ -1,6 +1,6 @@
 // What was made, begun, got, ended, given up and released, in sentences.
 
-ghost use Rattle.std.specs.Prelude.{◌≡◌, ◌++◌, OnOk, string_bytes};
+ghost use Rattle.std.specs.Prelude.{◌≡◌, ◌++◌, [], OnErr, OnOk, string_bytes};
 ghost use Rattle.values.specs.Values.{content_of};
 ghost use Rattle.task_spec.specs.Births.{birth_of};
 ghost use Rattle.event_log.specs.Words.{births};
@@ -19,6 +19,7 @@ use log_text::write_named;
 use log_words::{
     BirthIndex, Contents, write_birth, write_content, write_contents, write_fault, write_objects,
 };
+use report::or_no_text;
 use std::alloc::{AllocError, Global};
 use task_spec::Birth;
 use values::{Content, Fault};
@@ -46,7 +47,8 @@ pub fn write_made(
     text.push_str(".\n")
 }
 
-/// Writes where an attempt began, and why, if it is a later one; `before` are the entries before.
+/// Writes where an attempt began, and why, if it is a later one; `before` are the entries before. An error is want of memory, and then nothing is
+/// left of the text.
 pub fn write_began(
     alloc: Global,
     text: &mut String,
@@ -58,14 +60,15 @@ pub fn write_began(
     attempt: AttemptId,
     worker: WorkerId,
 ) -> Result<(), AllocError>
-    ensures { IsIndexOf index.now log.now → OnOk result (string_bytes text.new ≡ string_bytes text.old
+    ensures done { IsIndexOf index.now log.now → OnOk result (string_bytes text.new ≡ string_bytes text.old
         ++ began_text (births log.now) lines.now before.now (moment_of moment.now) attempt worker) }
+    ensures err { OnErr result (string_bytes text.new ≡ []) }
 {
     write_named(text, index, log, attempt)?;
-    write!(text, " began on {worker}")?;
+    or_no_text(write!(text, " began on {worker}"), text)?;
     write_when(text, moment)?;
     write_again(alloc, text, index, log, before, lines, attempt)?;
-    text.push_str(".\n")
+    or_no_text(text.push_str(".\n"), text)
 }
 
 /// Writes that the attempt got the object, when, and the content that it got (`specs/` has the sentence as `got_text`).
@@ -90,7 +93,7 @@ pub fn write_got(
     text.push_str(".\n")
 }
 
-/// Writes with what an attempt ended.
+/// Writes with what an attempt ended. An error is want of memory, and then nothing is left of the text.
 pub fn write_ended(
     text: &mut String,
     contents: Contents,
@@ -100,15 +103,16 @@ pub fn write_ended(
     attempt: AttemptId,
     results: &SmallList<SharedContent>,
 ) -> Result<(), AllocError>
-    ensures { IsIndexOf index.now log.now → OnOk result (string_bytes text.new ≡ string_bytes text.old
+    ensures done { IsIndexOf index.now log.now → OnOk result (string_bytes text.new ≡ string_bytes text.old
         ++ ended_text contents (births log.now) (moment_of moment.now) attempt results.now) }
+    ensures err { OnErr result (string_bytes text.new ≡ []) }
 {
     write_named(text, index, log, attempt)?;
-    text.push_str(" ended")?;
+    or_no_text(text.push_str(" ended"), text)?;
     write_when(text, moment)?;
-    text.push_str(": ")?;
-    write_contents(text, contents, results)?;
-    text.push_str(".\n")
+    or_no_text(text.push_str(": "), text)?;
+    or_no_text(write_contents(text, contents, results), text)?;
+    or_no_text(text.push_str(".\n"), text)
 }
 
 #[tactic(auto, unfolding(crate::specs::Entries::accepted_head))]
@@ -119,7 +123,8 @@ fn write_accepted_head(text: &mut String, attempt: AttemptId) -> Result<(), Allo
     write!(text, "{owner} accepted ")
 }
 
-/// Writes that the owner learned how an attempt ended; `before` are the entries before.
+/// Writes that the owner learned how an attempt ended; `before` are the entries before. An error is want of memory, and then nothing is left of
+/// the text.
 pub fn write_accepted(
     alloc: Global,
     text: &mut String,
@@ -129,14 +134,18 @@ pub fn write_accepted(
     moment: &Moment,
     attempt: AttemptId,
 ) -> Result<(), AllocError>
-    ensures { IsIndexOf index.now log.now → OnOk result (string_bytes text.new ≡ string_bytes text.old
+    ensures done { IsIndexOf index.now log.now → OnOk result (string_bytes text.new ≡ string_bytes text.old
         ++ accepted_text (births log.now) before.now (moment_of moment.now) attempt) }
+    ensures err { OnErr result (string_bytes text.new ≡ []) }
 {
-    write_accepted_head(text, attempt)?;
+    or_no_text(write_accepted_head(text, attempt), text)?;
     write_named(text, index, log, attempt)?;
     write_when(text, moment)?;
-    write_kept_note(alloc, text, index, log, before, attempt)?;
-    text.push_str(".\n")
+    or_no_text(
+        write_kept_note(alloc, text, index, log, before, attempt),
+        text,
+    )?;
+    or_no_text(text.push_str(".\n"), text)
 }
 
 #[tactic(auto, unfolding(crate::specs::Entries::get_note))]
@@ -163,7 +172,8 @@ fn write_faulted_head(
     Ok(())
 }
 
-/// Writes with which fault an attempt ended, and at which get; `before` are the entries before.
+/// Writes with which fault an attempt ended, and at which get; `before` are the entries before. An error is want of memory, and then nothing is
+/// left of the text.
 pub fn write_faulted(
     alloc: Global,
     text: &mut String,
@@ -175,32 +185,37 @@ pub fn write_faulted(
     object: ObjectId,
     fault: Fault,
 ) -> Result<(), AllocError>
-    ensures { IsIndexOf index.now log.now → OnOk result (string_bytes text.new ≡ string_bytes text.old ++ faulted_text
+    ensures done { IsIndexOf index.now log.now → OnOk result (string_bytes text.new ≡ string_bytes text.old ++ faulted_text
         (births log.now) before.now (moment_of moment.now) attempt object fault) }
+    ensures err { OnErr result (string_bytes text.new ≡ []) }
 {
-    write_faulted_head(text, index, log, moment, attempt)?;
-    write_get(text, object)?;
-    write_fault(text, fault)?;
-    write_fault_note(alloc, text, index, log, before, object, fault)?;
-    text.push_str(".\n")
+    or_no_text(write_faulted_head(text, index, log, moment, attempt), text)?;
+    or_no_text(write_get(text, object), text)?;
+    or_no_text(write_fault(text, fault), text)?;
+    or_no_text(
+        write_fault_note(alloc, text, index, log, before, object, fault),
+        text,
+    )?;
+    or_no_text(text.push_str(".\n"), text)
 }
 
-/// Writes that its owner gave the object up.
+/// Writes that its owner gave the object up. An error is want of memory, and then nothing is left of the text.
 pub fn write_given_up(
     text: &mut String,
     moment: &Moment,
     object: ObjectId,
     fault: Fault,
 ) -> Result<(), AllocError>
-    ensures { OnOk result
+    ensures done { OnOk result
         (string_bytes text.new ≡ string_bytes text.old ++ given_up_text (moment_of moment.now) object fault) }
+    ensures err { OnErr result (string_bytes text.new ≡ []) }
 {
     let owner = object.owner;
-    write!(text, "{owner} gave up {object}")?;
+    or_no_text(write!(text, "{owner} gave up {object}"), text)?;
     write_when(text, moment)?;
-    text.push_str(": ")?;
-    write_fault(text, fault)?;
-    text.push_str(".\n")
+    or_no_text(text.push_str(": "), text)?;
+    or_no_text(write_fault(text, fault), text)?;
+    or_no_text(text.push_str(".\n"), text)
 }
 
 #[tactic(auto, unfolding(crate::specs::Entries::released_head))]

@@ -1,6 +1,6 @@
 // Why an attempt was begun again: what became of the one before it.
 
-ghost use Rattle.std.specs.Prelude.{◌≡◌, ◌++◌, OnOk, string_bytes};
+ghost use Rattle.std.specs.Prelude.{◌≡◌, ◌++◌, [], OnErr, OnOk, string_bytes};
 ghost use Rattle.std.specs.Option.{option_map};
 ghost use Rattle.event_log.specs.Words.{births};
 ghost use Rattle.report_text.specs.of_report_lines.Main.{first};
@@ -16,6 +16,7 @@ use crate::results::objects_of;
 use ids::{AttemptId, ObjectId, WorkerId};
 use log_entries::{Entry, Event};
 use log_words::BirthIndex;
+use report::or_no_text;
 use std::alloc::{AllocError, Global};
 
 #[tactic(auto, unfolding(crate::specs::Again::is_accept_of))]
@@ -184,7 +185,8 @@ fn write_reason(
 }
 
 /// Writes why a later attempt of a task was begun: since the worker of the one before it died, or its node, and when, or since a result of that
-/// one was lost. `before` are the entries of the log before it, and `lines` are those of their events.
+/// one was lost. `before` are the entries of the log before it, and `lines` are those of their events. An error is want of memory, and then nothing
+/// is left of the text.
 #[tactic(auto, unfolding(crate::specs::Again::again_note))]
 pub fn write_again(
     alloc: Global,
@@ -195,11 +197,15 @@ pub fn write_again(
     lines: &[usize],
     attempt: AttemptId,
 ) -> Result<(), AllocError>
-    ensures { IsIndexOf index.now log.now → OnOk result
+    ensures done { IsIndexOf index.now log.now → OnOk result
         (string_bytes text.new ≡ string_bytes text.old ++ again_note (births log.now) lines.now before.now attempt) }
+    ensures err { OnErr result (string_bytes text.new ≡ []) }
 {
     if attempt.number == 0 {
         return Ok(());
     }
-    write_reason(alloc, text, index, log, before, lines, one_before(attempt))
+    or_no_text(
+        write_reason(alloc, text, index, log, before, lines, one_before(attempt)),
+        text,
+    )
 }

@@ -1,6 +1,6 @@
 // Why an object is as it is, down to the object in which its fault began.
 
-ghost use Rattle.std.specs.Prelude.{◌≡◌, ◌++◌, IfOk, OnOk, length, string_bytes};
+ghost use Rattle.std.specs.Prelude.{◌≡◌, ◌++◌, [], IfOk, OnErr, OnOk, length, string_bytes};
 ghost use Rattle.std.specs.Option.{option_map};
 ghost use Rattle.event_log.specs.Entries.{main_attempt};
 ghost use Rattle.event_log.specs.Words.{faulted_in, faults_of};
@@ -12,6 +12,7 @@ use crate::ways::next_cause;
 use ids::ObjectId;
 use log_entries::Entry;
 use log_words::{Contents, task_of, write_fault};
+use report::or_no_text;
 use report_text::main_end::is_main;
 use std::alloc::{AllocError, Global};
 use values::Fault;
@@ -229,8 +230,7 @@ fn write_way(
     )
 }
 
-/// Writes why main ended with the fault: why the object that it was to get is as it is, and each one on the way from there to the first cause.
-pub fn write_main_lack(
+fn add_main_lack(
     alloc: Global,
     text: &mut String,
     contents: Contents,
@@ -245,4 +245,20 @@ pub fn write_main_lack(
     text.push_str(".\n\n")?;
     write_way(alloc, text, contents, log, lines, lack.fault, lack.object)?;
     Ok(())
+}
+
+/// Writes why main ended with the fault: why the object that it was to get is as it is, and each one on the way from there to the first cause. An
+/// error is want of memory, and then nothing is left of the text.
+pub fn write_main_lack(
+    alloc: Global,
+    text: &mut String,
+    contents: Contents,
+    log: &[Entry],
+    lines: &[usize],
+    lack: Lack,
+) -> Result<(), AllocError>
+    ensures done { OnOk result (string_bytes text.new ≡ string_bytes text.old ++ main_lack_text contents log.now lines.now (lack_of lack)) }
+    ensures err { OnErr result (string_bytes text.new ≡ []) }
+{
+    or_no_text(add_main_lack(alloc, text, contents, log, lines, lack), text)
 }

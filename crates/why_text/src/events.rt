@@ -1,6 +1,6 @@
 // What an event says of an object.
 
-ghost use Rattle.std.specs.Prelude.{◌≡◌, ◌++◌, [], OnOk, codes, if◌then◌else◌, map, string_bytes};
+ghost use Rattle.std.specs.Prelude.{◌≡◌, ◌++◌, [], OnErr, OnOk, codes, if◌then◌else◌, map, string_bytes};
 ghost use Rattle.std.specs.List.{flat_map, list_any};
 ghost use Rattle.meaning.specs.Births.{same_id};
 ghost use Rattle.why_text.specs.Moments.{moment_of};
@@ -16,6 +16,7 @@ use crate::runs::{Run, Subject, is_node};
 use ids::{AttemptId, NodeId, ObjectId, WorkerId};
 use log_entries::Event;
 use log_text::is_among;
+use report::or_no_text;
 use std::alloc::AllocError;
 
 #[tactic(auto, unfolding(crate::specs::Events::fate_text))]
@@ -179,12 +180,13 @@ fn write_owner(text: &mut String, object: ObjectId, dies: bool) -> Result<(), Al
     Ok(())
 }
 
-/// Writes that the node died, as `n2 died`.
+/// Writes that the node died, as `n2 died`. An error is want of memory, and then nothing is left of the text.
 #[tactic(auto, unfolding(crate::specs::Events::dead_node_text))]
 pub fn write_dead_node(text: &mut String, node: NodeId) -> Result<(), AllocError>
-    ensures { OnOk result (string_bytes text.new ≡ string_bytes text.old ++ dead_node_text node) }
+    ensures done { OnOk result (string_bytes text.new ≡ string_bytes text.old ++ dead_node_text node) }
+    ensures err { OnErr result (string_bytes text.new ≡ []) }
 {
-    write!(text, "{node} died")
+    or_no_text(write!(text, "{node} died"), text)
 }
 
 fn write_node_kill(
@@ -216,18 +218,19 @@ fn write_dead_worker_note(text: &mut String, dead: WorkerId) -> Result<(), Alloc
     write!(text, " that {dead} was dead.\n")
 }
 
-/// Writes that the worker learned of the other's death.
+/// Writes that the worker learned of the other's death. An error is want of memory, and then nothing is left of the text.
 pub fn write_notice(
     text: &mut String,
     moment: &Moment,
     worker: WorkerId,
     dead: WorkerId,
 ) -> Result<(), AllocError>
-    ensures { OnOk result (string_bytes text.new ≡ string_bytes text.old ++ notice_text (moment_of moment.now) worker dead) }
+    ensures done { OnOk result (string_bytes text.new ≡ string_bytes text.old ++ notice_text (moment_of moment.now) worker dead) }
+    ensures err { OnErr result (string_bytes text.new ≡ []) }
 {
-    write_learned(text, worker)?;
+    or_no_text(write_learned(text, worker), text)?;
     write_when(text, moment)?;
-    write_dead_worker_note(text, dead)
+    or_no_text(write_dead_worker_note(text, dead), text)
 }
 
 #[tactic(auto, unfolding(crate::specs::Events::node_note))]
@@ -237,18 +240,19 @@ fn write_dead_node_note(text: &mut String, dead: NodeId) -> Result<(), AllocErro
     write!(text, " that {dead} was dead.\n")
 }
 
-/// Writes that the worker learned of the node's death.
+/// Writes that the worker learned of the node's death. An error is want of memory, and then nothing is left of the text.
 pub fn write_node_notice(
     text: &mut String,
     moment: &Moment,
     worker: WorkerId,
     dead: NodeId,
 ) -> Result<(), AllocError>
-    ensures { OnOk result (string_bytes text.new ≡ string_bytes text.old ++ node_notice_text (moment_of moment.now) worker dead) }
+    ensures done { OnOk result (string_bytes text.new ≡ string_bytes text.old ++ node_notice_text (moment_of moment.now) worker dead) }
+    ensures err { OnErr result (string_bytes text.new ≡ []) }
 {
-    write_learned(text, worker)?;
+    or_no_text(write_learned(text, worker), text)?;
     write_when(text, moment)?;
-    write_dead_node_note(text, dead)
+    or_no_text(write_dead_node_note(text, dead), text)
 }
 
 #[tactic(auto, unfolding(crate::specs::Events::copies_head))]
@@ -263,7 +267,8 @@ fn write_copies_head(
     write!(text, "{node}{did}{object}")
 }
 
-/// Writes what became of the object's copies at the node; `did` is ` lost its copies of `, or another such.
+/// Writes what became of the object's copies at the node; `did` is ` lost its copies of `, or another such. An error is want of memory, and then
+/// nothing is left of the text.
 pub fn write_copies(
     text: &mut String,
     moment: &Moment,
@@ -271,11 +276,12 @@ pub fn write_copies(
     did: &str,
     object: ObjectId,
 ) -> Result<(), AllocError>
-    ensures { OnOk result (string_bytes text.new ≡ string_bytes text.old ++ copies_text (moment_of moment.now) node did.now object) }
+    ensures done { OnOk result (string_bytes text.new ≡ string_bytes text.old ++ copies_text (moment_of moment.now) node did.now object) }
+    ensures err { OnErr result (string_bytes text.new ≡ []) }
 {
-    write_copies_head(text, node, did, object)?;
+    or_no_text(write_copies_head(text, node, did, object), text)?;
     write_when(text, moment)?;
-    text.push_str(".\n")
+    or_no_text(text.push_str(".\n"), text)
 }
 
 fn write_loss(

@@ -1,9 +1,10 @@
 // The event at which something happened.
 
-ghost use Rattle.std.specs.Prelude.{◌≡◌, ◌+◌, ◌++◌, ◌<◌, ◌≤◌, ◌^◌, OnOk, string_bytes};
+ghost use Rattle.std.specs.Prelude.{◌≡◌, ◌+◌, ◌++◌, ◌<◌, ◌≤◌, ◌^◌, [], OnErr, OnOk, string_bytes};
 ghost use Rattle.why_text.specs.Moments.{event_note, first_moment, line_note, moment_after, moment_of, when_event, when_text};
 
 use log_entries::{Entry, Event};
+use report::or_no_text;
 use std::alloc::AllocError;
 
 /// How many events came, the last of them, and the line of the event file from which it came, if there is one.
@@ -80,9 +81,13 @@ fn write_event(
     text.push_str(")")
 }
 
-/// Writes when something happened, such as ` in event 6 (kill 2, line 2)`.
+/// Writes when something happened, such as ` in event 6 (kill 2, line 2)`. An error is want of memory, and then nothing is left of the text.
 pub fn write_when(text: &mut String, moment: &Moment) -> Result<(), AllocError>
-    ensures { OnOk result (string_bytes text.new ≡ string_bytes text.old ++ when_text (moment_of moment.now)) }
+    ensures done { OnOk result (string_bytes text.new ≡ string_bytes text.old ++ when_text (moment_of moment.now)) }
+    ensures err { OnErr result (string_bytes text.new ≡ []) }
 {
-    write_event(text, moment.number, moment.line, moment.event)
+    or_no_text(
+        write_event(text, moment.number, moment.line, moment.event),
+        text,
+    )
 }

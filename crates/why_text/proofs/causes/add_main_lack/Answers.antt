@@ -2,7 +2,7 @@ use Rattle.std.specs.Prelude.{string_bytes, codes, length}
 use Rattle.log_words.specs.Faults.{fault_words}
 use Rattle.why_text.specs.Text.{causes_text, main_lack_text}
 use Rattle.why_text.proofs.Writing.{four_written}
-use Rattle.why_text.proofs.causes.write_main_lack.Goals as goal
+use Rattle.why_text.proofs.causes.add_main_lack.Goals as goal
 
 pub returns : goal.returns
 unfolding main_lack_text

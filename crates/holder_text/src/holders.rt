@@ -1,6 +1,6 @@
 // The lines of who holds an object and who waits for it.
 
-ghost use Rattle.std.specs.Prelude.{◌≡◌, ◌++◌, IfOk, OnOk, map, option_copied, string_bytes};
+ghost use Rattle.std.specs.Prelude.{◌≡◌, ◌++◌, [], IfOk, OnErr, OnOk, map, option_copied, string_bytes};
 ghost use Rattle.std.specs.Option.{option_map};
 ghost use Rattle.task_spec.specs.Births.{argument_of, birth_of};
 ghost use Rattle.event_log.specs.Words.{births};
@@ -11,7 +11,7 @@ ghost use Rattle.holder_text.specs.Holders.{is_going_on, source_of, mentions, wa
 
 use ids::{AttemptId, ObjectId, WorkerId};
 use log_entries::Entry;
-use log_text::write_named;
+use log_text::{or_no_text, write_named};
 use log_words::{BirthIndex, ids_of, task_of};
 use protocol_data::{Object, Worker};
 use std::alloc::{AllocError, Global};
@@ -130,8 +130,7 @@ fn write_holder_unless(
     write_holder(alloc, text, index, log, object, holder)
 }
 
-/// Writes each object that holds the object.
-pub fn write_holders(
+fn add_holders(
     alloc: Global,
     text: &mut String,
     index: &BirthIndex,
@@ -154,6 +153,22 @@ pub fn write_holders(
         )?;
     }
     Ok(())
+}
+
+/// Writes each object that holds the object. An error is want of memory, and then nothing is left of the text.
+pub fn write_holders(
+    alloc: Global,
+    text: &mut String,
+    index: &BirthIndex,
+    log: &[Entry],
+    object: ObjectId,
+    row: &Object,
+) -> Result<(), AllocError>
+    ensures done { IsIndexOf index.now log.now → OnOk result
+        (string_bytes text.new ≡ string_bytes text.old ++ holders_text log.now object row.now.removed row.now.added) }
+    ensures err { OnErr result (string_bytes text.new ≡ []) }
+{
+    or_no_text(add_holders(alloc, text, index, log, object, row), text)
 }
 
 /// Whether the attempt is the one that the worker runs, and isn't over.
@@ -189,7 +204,7 @@ fn write_frame_of(
     Ok(())
 }
 
-/// Writes that the attempt that made the object goes on, if it does.
+/// Writes that the attempt that made the object goes on, if it does. An error is want of memory, and then nothing is left of the text.
 pub fn write_frame(
     text: &mut String,
     index: &BirthIndex,
@@ -198,13 +213,14 @@ pub fn write_frame(
     object: ObjectId,
     bearer: AttemptId,
 ) -> Result<(), AllocError>
-    ensures { IsIndexOf index.now log.now → OnOk result
+    ensures done { IsIndexOf index.now log.now → OnOk result
         (string_bytes text.new ≡ string_bytes text.old ++ frame_line log.now worker.now object bearer) }
+    ensures err { OnErr result (string_bytes text.new ≡ []) }
 {
     if !is_going_on(worker, bearer) {
         return Ok(());
     }
-    write_frame_of(text, index, log, object, bearer)
+    or_no_text(write_frame_of(text, index, log, object, bearer), text)
 }
 
 #[tactic(auto, unfolding(crate::specs::Holders::asker_line))]
@@ -214,16 +230,23 @@ fn write_asker(text: &mut String, object: ObjectId, asker: WorkerId) -> Result<(
     write!(text, "{object}: {asker} waits for it\n")
 }
 
-/// Writes the other workers that wait for the object.
-pub fn write_askers(
-    text: &mut String,
-    object: ObjectId,
-    askers: &[WorkerId],
-) -> Result<(), AllocError>
+fn add_askers(text: &mut String, object: ObjectId, askers: &[WorkerId]) -> Result<(), AllocError>
     ensures { OnOk result (string_bytes text.new ≡ string_bytes text.old ++ askers_text object askers.now) }
 {
     for asker in askers {
         write_asker(text, object, *asker)?;
     }
     Ok(())
+}
+
+/// Writes the other workers that wait for the object. An error is want of memory, and then nothing is left of the text.
+pub fn write_askers(
+    text: &mut String,
+    object: ObjectId,
+    askers: &[WorkerId],
+) -> Result<(), AllocError>
+    ensures done { OnOk result (string_bytes text.new ≡ string_bytes text.old ++ askers_text object askers.now) }
+    ensures err { OnErr result (string_bytes text.new ≡ []) }
+{
+    or_no_text(add_askers(text, object, askers), text)
 }

@@ -1,7 +1,7 @@
 use Rattle.std.proofs.Common.{◌≡◌, ◌++◌, string_bytes, take}
 use Rattle.std.specs.List.{flat_map}
 use Rattle.holder_text.specs.Holders.{asker_line}
-use Rattle.holder_text.proofs.holders.write_askers.Given as goal
+use Rattle.holder_text.proofs.holders.add_askers.Given as goal
 
 abbrev pub invariant-loop-asker : goal.invariant-loop-asker
 invariant-loop-asker l =

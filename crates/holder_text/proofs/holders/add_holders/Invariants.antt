@@ -2,7 +2,7 @@ use Rattle.std.proofs.Common.{◌≡◌, ◌++◌, string_bytes, take}
 use Rattle.std.specs.List.{flat_map}
 use Rattle.log_words.specs.Index.{IsIndexOf}
 use Rattle.holder_text.specs.Holders.{holder_lines}
-use Rattle.holder_text.proofs.holders.write_holders.Given as goal
+use Rattle.holder_text.proofs.holders.add_holders.Given as goal
 
 abbrev pub invariant-loop-holder : goal.invariant-loop-holder
 invariant-loop-holder l =

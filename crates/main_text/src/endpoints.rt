@@ -1,6 +1,6 @@
 // How workers, nodes and owners are written in an answer: `w2`, `n1`.
 
-ghost use Rattle.std.specs.Prelude.{◌≡◌, ◌++◌, OnOk, string_bytes};
+ghost use Rattle.std.specs.Prelude.{◌≡◌, ◌++◌, [], OnErr, OnOk, string_bytes};
 ghost use Rattle.std.specs.List.{flat_map};
 ghost use Rattle.main_text.specs.Links.{node_text, other_text};
 ghost use Rattle.main_text.specs.Links.{endpoint_name};
@@ -8,24 +8,27 @@ ghost use Rattle.main_text.specs.Links.{worker_text, workers_text};
 
 use ids::{AttemptId, NodeId, ObjectId, WorkerId};
 use protocol_data::Endpoint;
+use report::or_no_text;
 use std::alloc::AllocError;
 
-/// Writes a worker, such as `w2`.
+/// Writes a worker, such as `w2`. An error is want of memory, and then nothing is left of the text.
 #[tactic(auto, unfolding(crate::specs::Links::worker_text))]
 pub fn write_worker(text: &mut String, worker: WorkerId) -> Result<(), AllocError>
-    ensures { OnOk result (string_bytes text.new ≡ string_bytes text.old ++ worker_text worker) }
+    ensures done { OnOk result (string_bytes text.new ≡ string_bytes text.old ++ worker_text worker) }
+    ensures err { OnErr result (string_bytes text.new ≡ []) }
 {
     let number = worker.0;
-    write!(text, "w{number}")
+    or_no_text(write!(text, "w{number}"), text)
 }
 
-/// Writes a node, such as `n1`.
+/// Writes a node, such as `n1`. An error is want of memory, and then nothing is left of the text.
 #[tactic(auto, unfolding(crate::specs::Links::node_text))]
 pub fn write_node(text: &mut String, node: NodeId) -> Result<(), AllocError>
-    ensures { OnOk result (string_bytes text.new ≡ string_bytes text.old ++ node_text node) }
+    ensures done { OnOk result (string_bytes text.new ≡ string_bytes text.old ++ node_text node) }
+    ensures err { OnErr result (string_bytes text.new ≡ []) }
 {
     let number = node.0;
-    write!(text, "n{number}")
+    or_no_text(write!(text, "n{number}"), text)
 }
 
 /// Writes the worker that owns the object.
@@ -53,15 +56,16 @@ fn write_others(text: &mut String, workers: &[WorkerId]) -> Result<(), AllocErro
     Ok(())
 }
 
-/// Writes the workers, such as `w2, w4`.
+/// Writes the workers, such as `w2, w4`. An error is want of memory, and then nothing is left of the text.
 pub fn write_workers(text: &mut String, workers: &[WorkerId]) -> Result<(), AllocError>
-    ensures { OnOk result (string_bytes text.new ≡ string_bytes text.old ++ workers_text workers.now) }
+    ensures done { OnOk result (string_bytes text.new ≡ string_bytes text.old ++ workers_text workers.now) }
+    ensures err { OnErr result (string_bytes text.new ≡ []) }
 {
     let [first, others @ ..] = workers else {
-        return text.push_str("nobody");
+        return or_no_text(text.push_str("nobody"), text);
     };
     write_worker(text, *first)?;
-    write_others(text, others)
+    or_no_text(write_others(text, others), text)
 }
 
 /// Writes a worker or a node.

@@ -1,6 +1,6 @@
 // What keeps an attempt from going on, in sentences.
 
-ghost use Rattle.std.specs.Prelude.{◌≡◌, ◌++◌, OnOk, string_bytes};
+ghost use Rattle.std.specs.Prelude.{◌≡◌, ◌++◌, [], OnErr, OnOk, string_bytes};
 ghost use Rattle.event_log.specs.Events.{from_one};
 ghost use Rattle.log_words.specs.Index.{IsIndexOf};
 ghost use Rattle.waits.specs.Tables.{holders_at};
@@ -17,6 +17,7 @@ use log_entries::{Entry, Event};
 use log_words::{BirthIndex, Contents};
 use message_text::message_kind;
 use protocol_data::{ClusterState, Envelope};
+use report::or_no_text;
 use std::alloc::{AllocError, Global};
 use waits::{Link, envelope_at, holders_at};
 use why_text::death_of;
@@ -267,8 +268,7 @@ fn write_link(
     }
 }
 
-/// Writes a sentence or two for each link.
-pub fn write_links(
+fn add_links(
     alloc: Global,
     text: &mut String,
     contents: Contents,
@@ -285,4 +285,25 @@ pub fn write_links(
         write_link(alloc, text, contents, index, log, lines, whole, link)?;
     }
     Ok(())
+}
+
+/// Writes a sentence or two for each link. An error is want of memory, and then nothing is left of the text.
+pub fn write_links(
+    alloc: Global,
+    text: &mut String,
+    contents: Contents,
+    index: &BirthIndex,
+    log: &[Entry],
+    lines: &[usize],
+    whole: &ClusterState,
+    links: &[Link],
+) -> Result<(), AllocError>
+    ensures done { IsIndexOf index.now log.now → OnOk result
+        (string_bytes text.new ≡ string_bytes text.old ++ links_text contents log.now lines.now whole.now links.now) }
+    ensures err { OnErr result (string_bytes text.new ≡ []) }
+{
+    or_no_text(
+        add_links(alloc, text, contents, index, log, lines, whole, links),
+        text,
+    )
 }

@@ -1,6 +1,6 @@
 // Where a trap comes from.
 
-ghost use Rattle.std.specs.Prelude.{◌≡◌, ◌≤◌, ◌++◌, OnOk, string_bytes};
+ghost use Rattle.std.specs.Prelude.{◌≡◌, ◌≤◌, ◌++◌, [], OnErr, OnOk, string_bytes};
 ghost use Rattle.std.specs.List.{flat_map};
 ghost use Rattle.std.specs.Option.{option_map};
 ghost use Rattle.values.specs.Values.{content_of, trap_of};
@@ -20,7 +20,7 @@ use log_entries::Entry;
 use log_text::write_named;
 use log_words::{BirthIndex, Contents};
 use protocol_data::ClusterState;
-use report::trap_name;
+use report::{or_no_text, trap_name};
 use std::alloc::AllocError;
 use trap_sources::{trap_got, trapped_of};
 use values::{Content, Trap};
@@ -193,9 +193,8 @@ fn write_trap_of(text: &mut String, log: &[Entry], attempt: AttemptId) -> Result
     write_trap_note(text, trap)
 }
 
-/// Writes that the attempt's own code trapped, behind which answer, and what such a trap can come of.
 #[tactic(auto, unfolding(crate::specs::Traps::own_text))]
-pub fn write_own(
+fn add_own(
     text: &mut String,
     index: &BirthIndex,
     log: &[Entry],
@@ -209,6 +208,20 @@ pub fn write_own(
     write_trap_of(text, log, attempt)?;
     text.push_str(".\n")?;
     Ok(())
+}
+
+/// Writes that the attempt's own code trapped, behind which answer, and what such a trap can come of. An error is want of memory, and then nothing
+/// is left of the text.
+pub fn write_own(
+    text: &mut String,
+    index: &BirthIndex,
+    log: &[Entry],
+    attempt: AttemptId,
+) -> Result<(), AllocError>
+    ensures done { IsIndexOf index.now log.now → OnOk result (string_bytes text.new ≡ string_bytes text.old ++ own_text log.now attempt) }
+    ensures err { OnErr result (string_bytes text.new ≡ []) }
+{
+    or_no_text(add_own(text, index, log, attempt), text)
 }
 
 /// Writes whose trap the attempt got.

@@ -5,4 +5,4 @@ use Rattle.main_text.proofs.links.write_rest.Goals as goal
 pub returns : goal.returns
 returns c =
     three (string_bytes c.args.text.now) (string_bytes c.push_str.new.self) (string_bytes c.write_worker.new.text) (string_bytes c.write.new.self) _ _
-    _ c.in_ok-push_str.ensures.bytes c.in_ok-write_worker.ensures c.in_ok-write.ensures.bytes
+    _ c.in_ok-push_str.ensures.bytes c.in_ok-write_worker.ensures.done c.in_ok-write.ensures.bytes

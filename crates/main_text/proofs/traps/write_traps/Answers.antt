@@ -6,7 +6,7 @@ pub returns-in_default : goal.returns-in_default
 returns-in_default c =
     own_written c.args.contents c.args.whole.now.jobs c.args.log.now c.args.lines.now c.loop-left.attempt c.loop-left.left (c.loop-left.left - 1)
     (string_bytes c.loop-left.text) (string_bytes c.write_own.new.text) _ (omega (arith, c.loop-left-test.true))
-    (sym c.trap_got.ensures ∙ c.in_default.is) c.loop-left.invariant (c.in_ok-write_own.ensures c.requires)
+    (sym c.trap_got.ensures ∙ c.in_default.is) c.loop-left.invariant (c.in_ok-write_own.ensures.done c.requires)
 
 pub returns-in_default-trapped_of : goal.returns-in_default-trapped_of
 returns-in_default-trapped_of c =

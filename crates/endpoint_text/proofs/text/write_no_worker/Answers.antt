@@ -7,4 +7,4 @@ pub returns : goal.returns
 returns c =
     three_written (string_bytes c.args.text.now) (string_bytes c.push_str.new.self) (string_bytes c.write_worker.new.text)
     (string_bytes c.push_str-2.new.self) (codes "There is no ") (worker_text c.args.worker) (codes ".\n")
-    c.in_ok-push_str.ensures.bytes c.in_ok-write_worker.ensures c.in_ok-push_str-2.ensures.bytes
+    c.in_ok-push_str.ensures.bytes c.in_ok-write_worker.ensures.done c.in_ok-push_str-2.ensures.bytes

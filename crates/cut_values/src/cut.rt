@@ -1,11 +1,11 @@
 // Values whose long lists are cut.
 
-ghost use Rattle.std.specs.Prelude.{◌≡◌, ◌++◌, OnOk, string_bytes};
+ghost use Rattle.std.specs.Prelude.{◌≡◌, ◌++◌, [], OnErr, OnOk, string_bytes};
 ghost use Rattle.values.specs.Values.{value_of};
 ghost use Rattle.report.specs.ValueTexts.{separator};
 ghost use Rattle.cut_values.specs.Cut.{count_text, cut_text, is_cut, left_text};
 
-use report::write_value;
+use report::{or_no_text, write_value};
 use std::alloc::AllocError;
 use values::RunValue;
 
@@ -52,8 +52,8 @@ fn separate(text: &mut String, place: usize) -> Result<(), AllocError>
     text.push_str(", ")
 }
 
-/// Writes a value as a report has it, but of each list with more than 8 items only the first three, and how many follow.
-pub fn write_cut(text: &mut String, value: &RunValue) -> Result<(), AllocError>
+/// Writes a value at the text's end, with its long lists cut.
+fn add_cut(text: &mut String, value: &RunValue) -> Result<(), AllocError>
     ensures { OnOk result (string_bytes text.new ≡ string_bytes text.old ++ cut_text (value_of value.now)) }
 {
     match value {
@@ -67,10 +67,19 @@ pub fn write_cut(text: &mut String, value: &RunValue) -> Result<(), AllocError>
                     return write_left(text, all.saturating_sub(place));
                 }
                 separate(text, place)?;
-                write_cut(text, item)?;
+                add_cut(text, item)?;
             }
             text.push_str("]")?;
             Ok(())
         }
     }
+}
+
+/// Writes a value as a report has it, but of each list with more than 8 items only the first three, and how many follow. An error is want of
+/// memory, and then nothing is left of the text.
+pub fn write_cut(text: &mut String, value: &RunValue) -> Result<(), AllocError>
+    ensures done { OnOk result (string_bytes text.new ≡ string_bytes text.old ++ cut_text (value_of value.now)) }
+    ensures err { OnErr result (string_bytes text.new ≡ []) }
+{
+    or_no_text(add_cut(text, value), text)
 }

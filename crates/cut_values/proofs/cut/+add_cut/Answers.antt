@@ -1,6 +1,6 @@
 use Rattle.std.proofs.Common.{sym, ◌∙◌, string_bytes, arith}
 use Rattle.cut_values.proofs.Cutting.{cut_returned, whole_returned}
-use Rattle.cut_values.proofs.cut.+write_cut.Goals as goal
+use Rattle.cut_values.proofs.cut.+add_cut.Goals as goal
 
 pub returns-then-is_cut : goal.returns-then-is_cut
 returns-then-is_cut t c =

@@ -1,6 +1,6 @@
 use Rattle.std.proofs.Common.{◌≡◌, ◌++◌, string_bytes}
 use Rattle.cut_values.proofs.Cutting.{from_place}
-use Rattle.cut_values.proofs.cut.+write_cut.Given as goal
+use Rattle.cut_values.proofs.cut.+add_cut.Given as goal
 
 -- the text so far with the items from the place on
 abbrev pub invariant-loop-place : goal.invariant-loop-place

@@ -1,6 +1,6 @@
 // How main ended, by a log: its content, its fault or neither, as a line and as a status.
 
-ghost use Rattle.std.specs.Prelude.{◌≡◌, ◌++◌, OnOk, option_copied, string_bytes};
+ghost use Rattle.std.specs.Prelude.{◌≡◌, ◌++◌, [], OnErr, OnOk, option_copied, string_bytes};
 ghost use Rattle.std.specs.Option.{option_map};
 ghost use Rattle.event_log.specs.Entries.{main_attempt};
 ghost use Rattle.event_log.specs.Words.{same_attempt, faulted_in};
@@ -10,7 +10,7 @@ use crate::faults::write_fault;
 use held::SharedContent;
 use ids::AttemptId;
 use log_entries::Entry;
-use report::write_main_lines;
+use report::{or_no_text, write_main_lines};
 use std::alloc::AllocError;
 use values::Fault;
 
@@ -84,15 +84,17 @@ fn write_unended(text: &mut String, fault: Option<Fault>) -> Result<(), AllocErr
     text.push_str("\n")
 }
 
-/// Writes the line of main's end: `main value 0`, `main trap DivZero`, or that it has a fault or is open.
+/// Writes the line of main's end: `main value 0`, `main trap DivZero`, or that it has a fault or is open. An error is want of memory, and then
+/// nothing is left of the text.
 pub fn write_main(text: &mut String, log: &[Entry]) -> Result<(), AllocError>
-    ensures { OnOk result
+    ensures done { OnOk result
         (string_bytes text.new ≡ string_bytes text.old ++ main_line (main_end log.now) (main_fault log.now)) }
+    ensures err { OnErr result (string_bytes text.new ≡ []) }
 {
     match main_end(log) {
         // The prints are written before.
         Some(content) => write_main_lines(text, &[], &content.inner),
-        None => write_unended(text, main_fault(log)),
+        None => or_no_text(write_unended(text, main_fault(log)), text),
     }
 }
 

@@ -1,6 +1,6 @@
 // What a report notes of a log in its first way over it, in which it writes the prints.
 
-ghost use Rattle.std.specs.Prelude.{◌≡◌, ◌++◌, ◌||◌, [], IfOk, None, OnOk, Option, false, string_bytes};
+ghost use Rattle.std.specs.Prelude.{◌≡◌, ◌++◌, ◌||◌, [], IfOk, None, OnErr, OnOk, Option, false, string_bytes};
 ghost use Rattle.std.specs.List.{flat_map};
 ghost use Rattle.event_log.specs.Entries.{Event};
 ghost use Rattle.ids.specs.Attempts.{Attempt};
@@ -13,6 +13,7 @@ ghost use Rattle.report_lines.specs.Sets.{has};
 use crate::attempts::AttemptStates;
 use crate::prints::write_print;
 use log_entries::Entry;
+use report::or_no_text;
 use std::alloc::{AllocError, Global};
 
 /// What is known of a log behind the first way over it.
@@ -48,12 +49,8 @@ fn note_entry(
     }
 }
 
-/// Writes a line for each print of the log, and notes what the further sections need.
-pub fn write_prints_and_note(
-    alloc: Global,
-    text: &mut String,
-    log: &[Entry],
-) -> Result<Noted, AllocError>
+/// Writes the prints' lines at the text's end, and notes what the further sections need.
+fn add_prints_and_note(alloc: Global, text: &mut String, log: &[Entry]) -> Result<Noted, AllocError>
     ensures printed { OnOk result (string_bytes text.new ≡ string_bytes text.old ++ flat_map print_in log.now) }
     ensures states { IfOk result (λ noted. AreStatesOf noted.states log.now) }
     ensures refused { IfOk result (λ noted. noted.refused ≡ false → refused_lines None log.now ≡ []) }
@@ -64,4 +61,19 @@ pub fn write_prints_and_note(
         note_entry(text, &mut states, &mut refused, entry)?;
     }
     Ok(Noted { states, refused })
+}
+
+/// Writes a line for each print of the log, and notes what the further sections need. An error is want of memory, and then nothing is left of the
+/// text.
+pub fn write_prints_and_note(
+    alloc: Global,
+    text: &mut String,
+    log: &[Entry],
+) -> Result<Noted, AllocError>
+    ensures printed { OnOk result (string_bytes text.new ≡ string_bytes text.old ++ flat_map print_in log.now) }
+    ensures states { IfOk result (λ noted. AreStatesOf noted.states log.now) }
+    ensures refused { IfOk result (λ noted. noted.refused ≡ false → refused_lines None log.now ≡ []) }
+    ensures err { OnErr result (string_bytes text.new ≡ []) }
+{
+    or_no_text(add_prints_and_note(alloc, text, log), text)
 }

@@ -1,10 +1,11 @@
 // The report's last section: a line for each event that was refused.
 
-ghost use Rattle.std.specs.Prelude.{◌≡◌, ◌++◌, [], OnOk, None, Option, false, string_bytes, true};
+ghost use Rattle.std.specs.Prelude.{◌≡◌, ◌++◌, [], OnErr, OnOk, None, Option, false, string_bytes, true};
 ghost use Rattle.event_log.specs.Entries.{Event};
 ghost use Rattle.report_lines.specs.Refusals.{last_in, refused_in, refused_lines};
 
 use log_entries::{Entry, Event};
+use report::or_no_text;
 use std::alloc::AllocError;
 
 /// The last event of a log, after one more entry.
@@ -50,8 +51,8 @@ fn none_refused(log: &[Entry]) -> bool
     true
 }
 
-/// Writes a line for each refusal of the log.
-pub fn write_refusals(text: &mut String, log: &[Entry]) -> Result<(), AllocError>
+/// Writes the refusals' lines at the text's end.
+fn add_refusals(text: &mut String, log: &[Entry]) -> Result<(), AllocError>
     ensures { OnOk result (string_bytes text.new ≡ string_bytes text.old ++ refused_lines None log.now) }
 {
     if none_refused(log) {
@@ -63,4 +64,12 @@ pub fn write_refusals(text: &mut String, log: &[Entry]) -> Result<(), AllocError
         last = last_event(last, entry);
     }
     Ok(())
+}
+
+/// Writes a line for each refusal of the log. An error is want of memory, and then nothing is left of the text.
+pub fn write_refusals(text: &mut String, log: &[Entry]) -> Result<(), AllocError>
+    ensures done { OnOk result (string_bytes text.new ≡ string_bytes text.old ++ refused_lines None log.now) }
+    ensures err { OnErr result (string_bytes text.new ≡ []) }
+{
+    or_no_text(add_refusals(text, log), text)
 }

@@ -2,7 +2,7 @@ use Rattle.std.proofs.Common.{◌≡◌, ◌++◌, string_bytes, take}
 use Rattle.std.specs.List.{flat_map}
 use Rattle.report_lines.specs.Attempts.{attempt_in}
 use Rattle.report_lines.specs.Objects.{release_in, resolve_in}
-use Rattle.report_lines.proofs.outcomes.write_outcomes.Given as goal
+use Rattle.report_lines.proofs.outcomes.add_outcomes.Given as goal
 
 -- each section has the lines of the entries so far
 abbrev pub invariant-loop-entry : goal.invariant-loop-entry

@@ -1,7 +1,7 @@
 use Rattle.std.proofs.Common.{string_bytes, sym}
 use Rattle.report_lines.specs.Main.{print_in}
 use Rattle.report_lines.proofs.Said.{none_refused_more, states_more, text_more}
-use Rattle.report_lines.proofs.noted.write_prints_and_note.Goals as goal
+use Rattle.report_lines.proofs.noted.add_prints_and_note.Goals as goal
 
 pub loop-entry-preserved : goal.loop-entry-preserved
 loop-entry-preserved c = record {

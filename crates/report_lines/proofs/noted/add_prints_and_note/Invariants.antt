@@ -4,7 +4,7 @@ use Rattle.event_log.specs.Entries.{Event}
 use Rattle.report_lines.specs.Attempts.{AreStatesOf}
 use Rattle.report_lines.specs.Main.{print_in}
 use Rattle.report_lines.specs.Refusals.{refused_lines}
-use Rattle.report_lines.proofs.noted.write_prints_and_note.Given as goal
+use Rattle.report_lines.proofs.noted.add_prints_and_note.Given as goal
 
 -- what was passed over was printed and noted; it has no refusal, if none was noted
 abbrev pub invariant-loop-entry : goal.invariant-loop-entry

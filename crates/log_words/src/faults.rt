@@ -1,8 +1,9 @@
 // Faults, written with what they mean.
 
-ghost use Rattle.std.specs.Prelude.{◌≡◌, ◌++◌, OnOk, string_bytes};
+ghost use Rattle.std.specs.Prelude.{◌≡◌, ◌++◌, [], OnErr, OnOk, string_bytes};
 ghost use Rattle.log_words.specs.Faults.{kind_words, fault_words};
 
+use report::or_no_text;
 use report_text::kind_name;
 use std::alloc::AllocError;
 use values::{Fault, FaultKind};
@@ -18,12 +19,13 @@ pub fn kind_words(kind: FaultKind) -> &'static str
     }
 }
 
-/// Writes a fault, such as `PutLost o1.1 (it was put, and its copy was lost)`.
+/// Writes a fault, such as `PutLost o1.1 (it was put, and its copy was lost)`. An error is want of memory, and then nothing is left of the text.
 pub fn write_fault(text: &mut String, fault: Fault) -> Result<(), AllocError>
-    ensures { OnOk result (string_bytes text.new ≡ string_bytes text.old ++ fault_words fault) }
+    ensures done { OnOk result (string_bytes text.new ≡ string_bytes text.old ++ fault_words fault) }
+    ensures err { OnErr result (string_bytes text.new ≡ []) }
 {
     let kind = kind_name(fault.kind);
     let object = fault.object;
     let words = kind_words(fault.kind);
-    write!(text, "{kind} {object} ({words})")
+    or_no_text(write!(text, "{kind} {object} ({words})"), text)
 }

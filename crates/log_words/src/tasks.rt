@@ -1,6 +1,6 @@
 // The task of which an object is a result, and the objects of a task, listed.
 
-ghost use Rattle.std.specs.Prelude.{◌≡◌, ◌++◌, IfOk, OnOk, option_copied, string_bytes};
+ghost use Rattle.std.specs.Prelude.{◌≡◌, ◌++◌, [], IfOk, OnErr, OnOk, option_copied, string_bytes};
 ghost use Rattle.std.specs.List.{flat_map};
 ghost use Rattle.std.specs.Option.{option_map};
 ghost use Rattle.meaning.specs.Births.{objects_at, objects_with};
@@ -15,6 +15,7 @@ use crate::births::{BirthIndex, is_main};
 use ids::ObjectId;
 use log_entries::Entry;
 use made_objects::{add_objects, is_made_by};
+use report::or_no_text;
 use std::alloc::{AllocError, Global};
 use task_spec::Birth;
 
@@ -68,14 +69,16 @@ fn write_listed(text: &mut String, objects: &[ObjectId]) -> Result<(), AllocErro
     write_other_objects(text, others)
 }
 
-/// Writes the objects of the birth whose first object is this, in order, such as `o1.2, o1.3`.
+/// Writes the objects of the birth whose first object is this, in order, such as `o1.2, o1.3`. An error is want of memory, and then nothing is
+/// left of the text.
 #[tactic(auto, unfolding(crate::specs::Tasks::objects_text))]
 pub fn write_objects(text: &mut String, object: ObjectId, birth: &Birth) -> Result<(), AllocError>
-    ensures { OnOk result (string_bytes text.new ≡ string_bytes text.old ++ objects_text object (birth_of birth.now)) }
+    ensures done { OnOk result (string_bytes text.new ≡ string_bytes text.old ++ objects_text object (birth_of birth.now)) }
+    ensures err { OnErr result (string_bytes text.new ≡ []) }
 {
     let mut objects = Vec::new(*text.allocator());
-    add_objects(&mut objects, object, birth)?;
-    write_listed(text, &objects)
+    or_no_text(add_objects(&mut objects, object, birth), text)?;
+    or_no_text(write_listed(text, &objects), text)
 }
 
 fn task_in(object: ObjectId, entry: &Entry) -> Option<ObjectId>

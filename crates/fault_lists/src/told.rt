@@ -1,6 +1,6 @@
 // A list that was tried, told.
 
-ghost use Rattle.std.specs.Prelude.{◌≡◌, ◌++◌, IfOk, OnOk, string_bytes};
+ghost use Rattle.std.specs.Prelude.{◌≡◌, ◌++◌, [], IfOk, OnErr, OnOk, string_bytes};
 ghost use Rattle.fault_lists.specs.Tables.{end_text, fault_list_text, list_file, list_text, place_text};
 
 use crate::ending::RunEnd;
@@ -8,6 +8,7 @@ use crate::tried::Tried;
 use event_files::print_events;
 use faulted_history::{FaultList, event_list};
 use log_entries::Event;
+use report::or_no_text;
 use report_text::kind_name;
 use std::alloc::{AllocError, Global};
 
@@ -50,13 +51,15 @@ fn write_end(text: &mut String, end: RunEnd) -> Result<(), AllocError>
     }
 }
 
-/// Writes `kill 2 and notice 1 2 behind event 7: main fault RetriesUsed o1.1`: the fault, its place, and how main ended.
+/// Writes `kill 2 and notice 1 2 behind event 7: main fault RetriesUsed o1.1`: the fault, its place, and how main ended. An error is want of
+/// memory, and then nothing is left of the text.
 pub fn list_text(text: &mut String, tried: &Tried) -> Result<(), AllocError>
-    ensures { OnOk result (string_bytes text.new ≡ string_bytes text.old ++ list_text tried.now) }
+    ensures done { OnOk result (string_bytes text.new ≡ string_bytes text.old ++ list_text tried.now) }
+    ensures err { OnErr result (string_bytes text.new ≡ []) }
 {
-    write_fault(text, &tried.list)?;
-    text.push_str(": ")?;
-    write_end(text, tried.end)
+    or_no_text(write_fault(text, &tried.list), text)?;
+    or_no_text(text.push_str(": "), text)?;
+    or_no_text(write_end(text, tried.end), text)
 }
 
 /// The events of the history with the fault in its place, and a settle line behind them, as an event file of format 1 whose first line is a comment that

@@ -7,4 +7,4 @@ use Rattle.log_text.proofs.entries.write_resolve.Goals as goal
 pub returns : goal.returns
 returns c =
     both_written (string_bytes c.args.text.now) (string_bytes c.write_resolve_head.new.text) (string_bytes c.write_fault.new.text)
-    (resolve_head c.args.object) (fault_words c.args.fault) c.write_fault.result c.in_ok-write_resolve_head.ensures c.write_fault.ensures
+    (resolve_head c.args.object) (fault_words c.args.fault) c.write_fault.result c.in_ok-write_resolve_head.ensures c.write_fault.ensures.done

@@ -10,4 +10,4 @@ returns c =
     four_written (string_bytes c.args.text.now) (string_bytes c.push_str.new.self) (string_bytes c.write_fault.new.text) (string_bytes c.push_str-2.new.self)
     (string_bytes c.write_way.new.text) (codes "Main ended with a fault: ") (fault_words c.args.lack.fault) (codes ".\n\n")
     (causes_text c.args.contents c.args.log.now c.args.lines.now c.args.lack.fault.object (length c.args.log.now) c.args.lack.object)
-    c.in_ok-push_str.ensures.bytes c.in_ok-write_fault.ensures c.in_ok-push_str-2.ensures.bytes c.in_ok-write_way.ensures
+    c.in_ok-push_str.ensures.bytes c.in_ok-write_fault.ensures.done c.in_ok-push_str-2.ensures.bytes c.in_ok-write_way.ensures

@@ -1,6 +1,6 @@
 // The jobs that were given out and not handed in yet.
 
-ghost use Rattle.std.specs.Prelude.{◌≡◌, ◌≢◌, true, false, IfOk, OnOk, OnErr, IfErr};
+ghost use Rattle.std.specs.Prelude.{◌≡◌, ◌≢◌, [], true, false, IfOk, OnOk, OnErr, IfErr};
 ghost use Rattle.script_check.specs.Trees.{script_of};
 ghost use Rattle.protocol_core.specs.Steps.{reply_of};
 ghost use Rattle.protocol_board.specs.Own.{JobAgrees, KeepsWithJob};
@@ -15,6 +15,18 @@ use protocol_core::Reply;
 use segment::{Compiled, Done, Job, ScriptName};
 use sequence::Seq;
 use std::alloc::Global;
+
+/// For how many jobs there is room from the start: a list that grows is copied.
+const JOBS: usize = 512;
+
+/// No jobs. There is room for 512 of them where there is memory for it.
+pub fn no_jobs<S: ScriptName>(alloc: Global) -> Seq<Option<Job<S>>>
+    ensures { result ≡ [] }
+{
+    let mut jobs = Seq::new(alloc);
+    let _ = jobs.items.reserve(JOBS);
+    jobs
+}
 
 /// Takes out the job of that number, if it was given out and not handed in yet.
 #[tactic(auto, using(crate::proofs::Jobs::job_there, crate::proofs::Jobs::no_job, crate::proofs::Jobs::taken_out, crate::proofs::Jobs::none_out))]

@@ -8,7 +8,7 @@ ghost use Rattle.protocol_board.specs.Replays.{EventPlays, EventStops, FileStops
 ghost use Rattle.protocol_board.specs.Views.{noted};
 
 use crate::board::Board;
-use crate::given::{given_by, hand_in, is_same, keep, run_job};
+use crate::given::{given_by, hand_in, is_same, keep, no_jobs, run_job};
 use crate::numbers::no_numbers;
 use crate::stopped::ReplayStop;
 use event_files::{EventFile, Line, MOST_EVENTS, RecordedEvent};
@@ -67,7 +67,7 @@ impl<S: ScriptName> Replay<S> {
     {
         Replay {
             board: Board::new(core),
-            jobs: Seq::new(alloc),
+            jobs: no_jobs(alloc),
             frames: Frames::new(alloc),
             applied: 0,
             sent: no_numbers(alloc),

@@ -16,6 +16,8 @@ use std::mem;
 
 /// How many frames are kept at most: as many as a run has workers.
 const PLACES: u32 = 1024;
+/// For how many of them there is room from the start: a list that grows is copied.
+const ROOM: usize = 64;
 
 /// Frames of attempts of the script `S` that wait for an answer, at most 1,024. An attempt's place is its worker's number by 1,024; the last
 /// frame of a place stays. A worker runs one attempt at a time, so an attempt that goes on keeps its frame.
@@ -45,13 +47,13 @@ fn place_of(base: ObjectId) -> usize
 }
 
 impl<S: ScriptName> Frames<S> {
-    /// None yet.
+    /// None yet. There is room for those of the first 64 workers where there is memory for it.
     pub fn new(alloc: Global) -> Frames<S>
         ensures { result ≡ [] }
     {
-        Frames {
-            waiting: Vec::new(alloc),
-        }
+        let mut waiting = Vec::new(alloc);
+        let _ = waiting.reserve(ROOM);
+        Frames { waiting }
     }
 
     /// Hands the job the frame of its attempt, if that is kept.

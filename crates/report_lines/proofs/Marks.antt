@@ -1,8 +1,10 @@
 -- A table with one more mark.
 use Rattle.std.proofs.Common.{◌≡◌, ◌<◌, ℕ, Bool, true, false, ◌&&◌, ◌||◌, ◌==◌, List, [], ◌∷◌, get_or, length, zero, suc, refl, ap, ◌∙◌, sym, arith}
-use Rattle.std.specs.Prelude.{slice_set}
+use Rattle.std.specs.Prelude.{nat_lt, slice_set, ◌+◌, ◌*◌}
 use Rattle.std.proofs.lemmas.Bool.Decides.{nat_tests}
-use Rattle.report_lines.specs.Sets.{is_set, row_of}
+use Rattle.meaning.specs.Births.{same_id}
+use Rattle.meaning.specs.Values.{Id}
+use Rattle.report_lines.specs.Sets.{is_low, is_low_marked, is_set, low_place, row_of}
 
 or-false : (b : Bool) → b ≡ (b || false)
 or-false true = refl
@@ -50,3 +52,34 @@ pub row_kept_in : (inside rows : List (List Bool)) (k j n : ℕ) (row longer non
     ((m : ℕ) → is_set longer m ≡ is_set row m) → is_set (row_of (slice_set inside k longer) j) n ≡ is_set (row_of rows j) n
 row_kept_in inside rows k j n row longer none e l g h =
     ap (λ rs. is_set (row_of (slice_set rs k longer) j) n) e ∙ row_kept rows k j n row longer none l (g ∙ ap (λ rs. get_or rs k none) e) h
+
+-- ---- the flat table of low serials
+
+spread : (b s t : Bool) → (b && (s || t)) ≡ ((b && s) || (b && t))
+spread true s t = refl
+spread false s t = refl
+
+-- places of low serials are equal where owners and serials are
+one_place : (m n s t : ℕ) → nat_lt t 8 ≡ true → (nat_lt s 8 && ((m * 8 + s) == (n * 8 + t))) ≡ ((m == n) && (s == t))
+one_place m n s t low = grind (arith, nat_tests, low)
+
+same_place : (o x : Id) → nat_lt x.serial 8 ≡ true → (nat_lt o.serial 8 && (low_place o == low_place x)) ≡ same_id o x
+unfolding same_id
+same_place o x low = one_place o.owner x.owner o.serial x.serial low
+
+pub low_marked : (old new : List Bool) (x : Id) → nat_lt x.serial 8 ≡ true → ((n : ℕ) → is_set new n ≡ (is_set old n || (n == low_place x))) → (o : Id) →
+    is_low_marked new o ≡ (is_low_marked old o || same_id o x)
+low_marked old new x low h o =
+    ap (λ b. nat_lt o.serial 8 && b) (h (low_place o))
+    ∙ spread (nat_lt o.serial 8) (is_set old (low_place o)) (low_place o == low_place x)
+    ∙ ap (λ b. is_low_marked old o || b) (same_place o x low)
+
+pub low_kept : (old new : List Bool) → ((n : ℕ) → is_set new n ≡ is_set old n) → (o : Id) → is_low_marked new o ≡ is_low_marked old o
+low_kept old new h o = ap (λ b. nat_lt o.serial 8 && b) (h (low_place o))
+
+right : (a b : Bool) → (a && b) ≡ true → b ≡ true
+right true b h = h
+right false b h = absurd cc
+
+pub low_serial : (x : Id) → is_low x ≡ true → nat_lt x.serial 8 ≡ true
+low_serial x h = right (nat_lt x.owner 4096) (nat_lt x.serial 8) h

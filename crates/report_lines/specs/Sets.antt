@@ -1,5 +1,5 @@
--- Sets of attempts: a table of objects whose first attempt is in the set, and a list of further attempts.
-use Rattle.std.specs.Prelude.{ℕ, Bool, false, List, [], Option, None, Some, ◌&&◌, ◌||◌, ◌==◌, nat_lt, slice_get}
+-- Sets of attempts: tables of objects whose first attempt is in the set, and a list of further attempts.
+use Rattle.std.specs.Prelude.{ℕ, Bool, false, List, [], Option, None, Some, ◌&&◌, ◌||◌, ◌==◌, ◌+◌, ◌*◌, nat_lt, slice_get}
 use Rattle.std.specs.List.{list_any}
 use Rattle.meaning.specs.Values.{Id}
 use Rattle.ids.specs.Attempts.{Attempt, same_attempt}
@@ -29,6 +29,18 @@ is_marked rows o = is_set (row_of rows o.owner) o.serial
 abbrev pub can_be_marked : Id → Bool
 can_be_marked o = nat_lt o.owner 4096 && nat_lt o.serial 16777216
 
--- whether the attempt is in the set: the table has its object, if it is the first attempt of it, or the list has it
+-- of each owner the flat table has eight places side by side, for its lowest serials
+abbrev pub low_place : Id → ℕ
+low_place o = o.owner * 8 + o.serial
+
+-- the object's owner is low enough for the flat table, and its serial has a place there
+abbrev pub is_low : Id → Bool
+is_low o = nat_lt o.owner 4096 && nat_lt o.serial 8
+
+-- the flat table has the object
+abbrev pub is_low_marked : List Bool → Id → Bool
+is_low_marked lows o = nat_lt o.serial 8 && is_set lows (low_place o)
+
+-- whether the attempt is in the set: a table has its object, if it is the first attempt of it, or the list has it
 abbrev pub has : AttemptSet → Attempt → Bool
-has set a = ((a.number == 0) && is_marked set.firsts a.object) || list_any (λ b. same_attempt a b) set.others.keys
+has set a = ((a.number == 0) && (is_low_marked set.lows a.object || is_marked set.firsts a.object)) || list_any (λ b. same_attempt a b) set.others.keys

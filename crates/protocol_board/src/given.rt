@@ -16,10 +16,10 @@ use segment::{Compiled, Done, Job, ScriptName};
 use sequence::Seq;
 use std::alloc::Global;
 
-/// For how many jobs there is room from the start: a list that grows is copied.
-const JOBS: usize = 512;
+/// For how many jobs there is room from the start: a list that grows is copied, up to the size from which on the C library moves its pages instead.
+const JOBS: usize = 8192;
 
-/// No jobs. There is room for 512 of them where there is memory for it.
+/// No jobs. There is room for 8,192 of them where there is memory for it.
 pub fn no_jobs<S: ScriptName>(alloc: Global) -> Seq<Option<Job<S>>>
     ensures { result ≡ [] }
 {

@@ -36,6 +36,7 @@ pub fn lines_in_file(
     ensures { IfOk result (λ all. all ≡ lines_in_file numbers.now lines.now) }
 {
     let mut all = Seq::new(alloc);
+    all.items.reserve(lines.len())?;
     for line in &lines.items {
         all.push(number_of(numbers, *line))?;
     }
